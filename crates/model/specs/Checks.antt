@@ -1,0 +1,107 @@
+-- The answer (document 01, from "An answer is an order, a ring or a refusal"): the whole check on byte lists and lent lists.
+use Prim.Native.Nat.{ℕ, _+_, _*_}
+use mathlib.Core.Bool.{Bool, true, false}
+use mathlib.Core.List.{List, [], _∷_, _++_, map}
+use lib.Dec.{leb, eqb}
+use lib.ListN.{length, drop}
+use Rattle.model.specs.declared.Answer.{Answer}
+use Rattle.model.specs.declared.Answer.the-variants.{Order, Ring, Refused}
+use Rattle.model.specs.declared.Item.{Item}
+use Rattle.model.specs.Refusals.{Result, ok, refused, require, _>>=_, orderTooShort, memoryTooShort}
+use Rattle.model.specs.Choice.{when, numbersFrom}
+use Rattle.model.specs.Programs.{Program, readProgram}
+use Rattle.model.specs.Records.{readRecord}
+use Rattle.model.specs.Machine.{Start, zeroStart, State}
+use Rattle.model.specs.Replay.{Origin, Event, Replayed, replay}
+use Rattle.model.specs.HappensBefore.{edgesOf}
+use Rattle.model.specs.Orders.{Verdict, ordered, cyclic, verdict}
+
+-- An accepted record of a readable program, replayed.
+pub record Accepted : Type 0 where
+  pub program : Program
+  pub run : Replayed
+
+-- "The program is read first, then the whole record, front to back"; then the items in turn.
+unfoldable pub accept : Start → (program recorded : List ℕ) → Result Accepted
+unfolding readProgram readRecord replay
+accept start program recorded = do
+  P ← readProgram program
+  items ← readRecord (P .header) recorded
+  run ← replay P start items
+  ok (record { program = P; run = run })
+
+-- The verdict on an accepted record: its arrows, and what they come to.
+unfoldable pub verdictOn : Replayed → Verdict
+unfolding edgesOf verdict
+verdictOn run = verdict (run .last .opened) (edgesOf (run .events))
+
+-- A function of ranks and numbers, below `count`, as a list: "rank 1 first".
+unfoldable pub rankByRank : {A : Type 0} → (ranks count : ℕ) → (ℕ → ℕ → A) → List A
+unfolding numbersFrom
+rankByRank {A} ranks count f = go (numbersFrom 1 ranks)
+  where
+    go : List ℕ → List A
+    go [] = []
+    go (r ∷ rest) = map (f r) (numbersFrom 0 count) ++ go rest
+
+-- "The last cell values, rank 1 first."
+unfoldable pub lastCells : Accepted → List ℕ
+unfolding rankByRank
+lastCells a = rankByRank (a .program .header .ranks) (a .program .header .cells) (a .run .last .machine .cells)
+
+-- What an order stands for: "the record's own items, group after group, each group's as command, popa, popb, or as a barrier row", which is how
+-- a record that the replay takes has them.
+unfoldable pub groupItems : (group : ℕ) → List Event → List Item
+groupItems g [] = []
+groupItems g (e ∷ events) = when (eqb (e .group) g) (λ _. e .item ∷ groupItems g events) (λ _. groupItems g events)
+
+unfoldable pub orderItems : List ℕ → List Event → List Item
+unfolding groupItems
+orderItems [] events = []
+orderItems (g ∷ groups) events = groupItems g events ++ orderItems groups events
+
+-- "fill the first entries of a lent .. list"; "Entries beyond are untouched."
+unfoldable pub fill : {A : Type 0} → List A → List A → List A
+fill new old = new ++ drop (length new) old
+
+-- The answer, and what both lent lists hold at the end.
+pub record Outcome : Type 0 where
+  pub answer : Answer
+  pub order : List ℕ
+  pub cells : List ℕ
+
+-- "Order and ring fill the first entries of a lent 16-bit list, and the answer gives the count."
+abbrev pub listed : Verdict → List ℕ
+listed (ordered groups) = groups
+listed (cyclic groups) = groups
+
+abbrev pub answered : Verdict → Answer
+answered (ordered groups) = Order (length groups)
+answered (cyclic groups) = Ring (length groups)
+
+-- What is to be written, where both lists are long enough: "Then 14, then 15."
+pub record Verdicts : Type 0 where
+  pub verdict : Verdict
+  pub cells : List ℕ
+
+unfoldable pub judged : Start → (program recorded : List ℕ) → (orderLength cellsLength : ℕ) → Result Verdicts
+unfolding accept verdictOn lastCells
+judged start program recorded orderLength cellsLength = do
+  a ← accept start program recorded
+  let groups : ℕ = a .run .last .opened
+  let count : ℕ = a .program .header .ranks * a .program .header .cells
+  _ ← require (leb groups orderLength) orderTooShort groups
+  _ ← require (leb count cellsLength) memoryTooShort count
+  ok (record { verdict = verdictOn (a .run); cells = lastCells a })
+
+-- "On a refusal nothing lent changes."
+unfoldable pub outcome : (order cells : List ℕ) → Result Verdicts → Outcome
+unfolding fill
+outcome order cells (refused r) = record { answer = Refused r; order = order; cells = cells }
+outcome order cells (ok v) =
+    record { answer = answered (v .verdict); order = fill (listed (v .verdict)) order; cells = fill (v .cells) cells }
+
+-- The whole check, from document 01's start; `order` and `cells` are what the lent lists hold.
+unfoldable pub check : (program recorded order cells : List ℕ) → Outcome
+unfolding zeroStart judged outcome
+check program recorded order cells = outcome order cells (judged zeroStart program recorded (length order) (length cells))

@@ -1,0 +1,35 @@
+-- The limits of document 01's formats, each under one name.
+use Prim.Native.Nat.{ℕ}
+
+-- "Ranks 1 to N, N 1..8."
+abbrev pub maxRanks : ℕ
+maxRanks = 8
+
+-- "Each rank has A cells (1..64), R registers (1..16), Q queues (1..4), all numbered from 0."
+abbrev pub maxCells : ℕ
+maxCells = 64
+
+abbrev pub maxRegisters : ℕ
+maxRegisters = 16
+
+abbrev pub maxQueues : ℕ
+maxQueues = 4
+
+-- "S control states (1..64), T transitions (0..128), both numbered from 0."
+abbrev pub maxStates : ℕ
+maxStates = 64
+
+abbrev pub maxTransitions : ℕ
+maxTransitions = 128
+
+-- "Expressions are tokens in prefix form, at most 15 each."
+abbrev pub maxTokens : ℕ
+maxTokens = 15
+
+-- "Record bytes: a two-byte item count, 0..1,024."
+abbrev pub maxItems : ℕ
+maxItems = 1_024
+
+-- "Values are unsigned 16-bit numbers": there are so many of them.
+abbrev pub wordValues : ℕ
+wordValues = 65_536

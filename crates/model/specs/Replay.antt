@@ -1,0 +1,270 @@
+-- The replay (document 01, "Steps of the replay"): items in turn, from any start, each taken or refused in the order "12 first, for pops too, then
+-- 7, 8, 9, 11; a pop has 10 before 11".
+use Prim.Native.Nat.{ℕ, _+_, _-_}
+use mathlib.Core.Bool.{Bool, true, false, not, _&&_}
+use mathlib.Core.List.{List, [], _∷_, _++_}
+use mathlib.Core.Option.{Option, some, none}
+use lib.Dec.{ltb, eqb}
+use lib.ListN.{length, getElem?}
+use Rattle.model.specs.declared.Address.{Address}
+use Rattle.model.specs.declared.Kind.{Kind}
+use Rattle.model.specs.declared.Kind.the-variants.{Load, Store, Assign, Assume, Read, Write, Popa, Popb, Bar}
+use Rattle.model.specs.declared.Given.{Given}
+use Rattle.model.specs.declared.Given.the-variants.{Value, Absent}
+use Rattle.model.specs.declared.Item.{Item}
+use Rattle.model.specs.Refusals.{Result, ok, refuse, require, _>>=_, wrongTransition, emptyQueue, accessDiffers, barrierRow, queuesLeft}
+use Rattle.model.specs.Choice.{when, numbersFrom}
+use Rattle.model.specs.Programs.{Program, Transition, kindOf}
+use Rattle.model.specs.Machine.{State, Request, Delivery, Access, readOf, writeOf, Start, initial, address, cellAt, put, moveTo, setRegister, setCell, setRequests, setDeliveries, Action, loads, stores, assigns, passes, issues, meets, action}
+
+-- The command that put an entry into a queue: its place in its rank's sequence of command items, and its group.
+pub record Origin : Type 0 where
+  pub place : ℕ
+  pub group : ℕ
+
+-- An item with what the replay finds of it. "An access is known by its rank, the place of its command in that rank's sequence, and its part."
+-- `place` is that place; the rank, and by the kind the part, are the item's. `queue` is a transfer's or a pop's, and else 0.
+pub record Event : Type 0 where
+  pub item : Item
+  pub place : ℕ
+  pub group : ℕ
+  pub queue : ℕ
+  pub access : Option Access
+
+-- "its part (command, fetch or delivery)"
+pub data Part : Type 0 where
+  command fetch delivery : Part
+
+abbrev pub partOf : Kind → Part
+partOf Load = command
+partOf Store = command
+partOf Assign = command
+partOf Assume = command
+partOf Read = command
+partOf Write = command
+partOf Popa = fetch
+partOf Popb = delivery
+partOf Bar = command
+
+abbrev pub isBar : Kind → Bool
+isBar Load = false
+isBar Store = false
+isBar Assign = false
+isBar Assume = false
+isBar Read = false
+isBar Write = false
+isBar Popa = false
+isBar Popb = false
+isBar Bar = true
+
+-- Document 01's number of each kind.
+abbrev pub kindNumber : Kind → ℕ
+kindNumber Load = 1
+kindNumber Store = 2
+kindNumber Assign = 3
+kindNumber Assume = 4
+kindNumber Read = 5
+kindNumber Write = 6
+kindNumber Popa = 7
+kindNumber Popb = 8
+kindNumber Bar = 9
+
+abbrev pub sameKind : Kind → Kind → Bool
+sameKind k l = eqb (kindNumber k) (kindNumber l)
+
+abbrev pub sameAddress : Address → Address → Bool
+sameAddress a b = eqb (a .rank) (b .rank) && eqb (a .cell) (b .cell)
+
+-- The machine, how many command items each rank has taken, how many groups there are so far, and how many ranks have entered an open barrier row
+-- (0: no row is open).
+pub record Replay : Type 0 where
+  pub machine : State Origin
+  pub taken : ℕ → ℕ
+  pub opened : ℕ
+  pub row : ℕ
+
+unfoldable pub begin : Start → Replay
+unfolding initial
+begin start = record { machine = initial start; taken = λ rank. 0; opened = 0; row = 0 }
+
+-- "A barrier is N bar items in a row, ranks 1 to N": with k ranks in the row only a bar of rank k + 1 may come, and only then.
+unfoldable pub rowAllows : (row : ℕ) → Item → Bool
+rowAllows row i = when (isBar (i .kind)) (λ _. eqb (i .rank) (row + 1)) (λ _. eqb row 0)
+
+-- The row after an item that it allows. The bar of rank N ends it.
+unfoldable pub rowAfter : (ranks row : ℕ) → Item → ℕ
+rowAfter ranks row i =
+    when (isBar (i .kind)) (λ _. when (eqb (i .rank) ranks) (λ _. 0) (λ _. i .rank)) (λ _. row)
+
+-- "Groups are numbered from 0 by their first item." A command item opens a group, unless it is a bar in a row that rank 1 has opened.
+unfoldable pub joinsRow : Item → Bool
+joinsRow i = isBar (i .kind) && ltb 1 (i .rank)
+
+unfoldable pub groupOf : (opened : ℕ) → Item → ℕ
+unfolding joinsRow
+groupOf opened i = when (joinsRow i) (λ _. opened - 1) (λ _. opened)
+
+unfoldable pub openedAfter : (opened : ℕ) → Item → ℕ
+unfolding joinsRow
+openedAfter opened i = when (joinsRow i) (λ _. opened) (λ _. opened + 1)
+
+-- "place or given value differs from the replay"; "An absent value is not checked."
+unfoldable pub agrees : Given → ℕ → Bool
+agrees (Value given) v = eqb given v
+agrees Absent v = true
+
+unfoldable pub agreesWith : Item → Option Access → Bool
+unfolding agrees
+agreesWith i none = true
+agreesWith i (some a) = sameAddress (i .place) (a .address) && agrees (i .given) (a .value)
+
+-- What a rank's action reads or writes, its queue, and what it does to the machine.
+unfoldable pub accessOf : (rank : ℕ) → Action → (cells : ℕ → ℕ → ℕ) → Option Access
+accessOf rank (loads x a) cells = readOf (address rank a) (cells rank a)
+accessOf rank (stores a v) cells = writeOf (address rank a) v
+accessOf rank (assigns x v) cells = none
+accessOf rank passes cells = none
+accessOf rank (issues q source destination) cells = none
+accessOf rank meets cells = none
+
+unfoldable pub queueOf : Action → ℕ
+queueOf (loads x a) = 0
+queueOf (stores a v) = 0
+queueOf (assigns x v) = 0
+queueOf passes = 0
+queueOf (issues q source destination) = q
+queueOf meets = 0
+
+unfoldable pub perform : (rank : ℕ) → Origin → Action → State Origin → State Origin
+unfolding setRegister setCell setRequests
+perform rank origin (loads x a) s = setRegister s rank x (s .cells rank a)
+perform rank origin (stores a v) s = setCell s (address rank a) v
+perform rank origin (assigns x v) s = setRegister s rank x v
+perform rank origin passes s = s
+perform rank origin (issues q source destination) s =
+    setRequests s rank q (s .requests rank q ++ record { source = source; destination = destination; mark = origin } ∷ [])
+perform rank origin meets s = s
+
+-- An item taken: the state after it, and its event.
+pub record Taken : Type 0 where
+  pub state : Replay
+  pub event : Event
+
+-- "A command item takes its transition from the rank's state."
+unfoldable pub afterAction : Program → Replay → (at : ℕ) → Item → Transition → Action → Result Taken
+unfolding put moveTo rowAfter groupOf openedAfter agreesWith accessOf queueOf perform
+afterAction P s at i t a = do
+  let origin : Origin = record { place = s .taken (i .rank); group = groupOf (s .opened) i }
+  let access : Option Access = accessOf (i .rank) a (s .machine .cells)
+  _ ← require (agreesWith i access) accessDiffers at
+  ok
+      (record {
+        state =
+            record {
+              machine = moveTo (perform (i .rank) origin a (s .machine)) (i .rank) (t .target);
+              taken = put (s .taken) (i .rank) (s .taken (i .rank) + 1);
+              opened = openedAfter (s .opened) i;
+              row = rowAfter (P .header .ranks) (s .row) i;
+            };
+        event = record { item = i; place = origin .place; group = origin .group; queue = queueOf a; access = access };
+      })
+
+unfoldable pub takeTransition : Program → Replay → (at : ℕ) → Item → Option Transition → Result Taken
+unfolding kindOf action afterAction
+takeTransition P s at i none = refuse wrongTransition at
+takeTransition P s at i (some t) = do
+  _ ← require (eqb (t .source) (s .machine .control (i .rank)) && sameKind (kindOf (t .command)) (i .kind)) wrongTransition at
+  a ← action P (i .rank) (s .machine .registers (i .rank)) at (t .command)
+  afterAction P s at i t a
+
+-- Which entry a pop takes: "Each such queue is first in, first out over all remote ranks."
+unfoldable pub oldest : {A : Type 0} → List A → Option (A × List A)
+oldest [] = none
+oldest (a ∷ rest) = some (a, rest)
+
+-- A pop changes the machine alone.
+abbrev pub popped : Replay → State Origin → Item → Origin → Option Access → Taken
+popped s machine i origin access =
+    record {
+      state = record { machine = machine; taken = s .taken; opened = s .opened; row = s .row };
+      event = record { item = i; place = origin .place; group = origin .group; queue = i .queue; access = access };
+    }
+
+-- "popa takes the head request of the named queue, reads the source cell now, and appends destination and value to that queue's deliveries."
+unfoldable pub takeFetch : Replay → (at : ℕ) → Item → Option (Request Origin × List (Request Origin)) → Result Taken
+unfolding agreesWith setRequests setDeliveries
+takeFetch s at i none = refuse emptyQueue at
+takeFetch s at i (some (a, rest)) = do
+  let value : ℕ = cellAt (s .machine .cells) (a .source)
+  let access : Option Access = readOf (a .source) value
+  _ ← require (agreesWith i access) accessDiffers at
+  let sent : List (Delivery Origin) =
+      s .machine .deliveries (i .rank) (i .queue) ++
+      record { destination = a .destination; value = value; mark = a .mark } ∷ []
+  ok (popped s (setDeliveries (setRequests (s .machine) (i .rank) (i .queue) rest) (i .rank) (i .queue) sent) i (a .mark) access)
+
+-- "popb takes the head delivery and writes it."
+unfoldable pub takeDelivery : Replay → (at : ℕ) → Item → Option (Delivery Origin × List (Delivery Origin)) → Result Taken
+unfolding agreesWith setCell setDeliveries
+takeDelivery s at i none = refuse emptyQueue at
+takeDelivery s at i (some (b, rest)) = do
+  let access : Option Access = writeOf (b .destination) (b .value)
+  _ ← require (agreesWith i access) accessDiffers at
+  ok (popped s (setCell (setDeliveries (s .machine) (i .rank) (i .queue) rest) (b .destination) (b .value)) i (b .mark) access)
+
+unfoldable pub takePart : Program → Replay → (at : ℕ) → Item → Part → Result Taken
+unfolding takeTransition oldest takeFetch takeDelivery
+takePart P s at i command = takeTransition P s at i (getElem? (P .transitions) (i .transition))
+takePart P s at i fetch = takeFetch s at i (oldest (s .machine .requests (i .rank) (i .queue)))
+takePart P s at i delivery = takeDelivery s at i (oldest (s .machine .deliveries (i .rank) (i .queue)))
+
+-- One item, the one with this number.
+unfoldable pub takeItem : Program → Replay → (at : ℕ) → Item → Result Taken
+unfolding rowAllows takePart
+takeItem P s at i = do
+  _ ← require (rowAllows (s .row) i) barrierRow at
+  takePart P s at i (partOf (i .kind))
+
+-- The state after the last item, and the events of all.
+pub record Replayed : Type 0 where
+  pub last : Replay
+  pub events : List Event
+
+unfoldable pub takeItems : Program → Replay → (at : ℕ) → List Item → Result Replayed
+unfolding takeItem
+takeItems P s at [] = ok (record { last = s; events = [] })
+takeItems P s at (i ∷ items) = do
+  taken ← takeItem P s at i
+  rest ← takeItems P (taken .state) (at + 1) items
+  ok (record { last = rest .last; events = taken .event ∷ rest .events })
+
+-- "At the end all queues are empty."
+unfoldable pub every : (ℕ → Bool) → List ℕ → Bool
+every test [] = true
+every test (n ∷ ns) = when (test n) (λ _. every test ns) (λ _. false)
+
+abbrev pub isEmpty : {A : Type 0} → List A → Bool
+isEmpty [] = true
+isEmpty (a ∷ rest) = false
+
+unfoldable pub quiet : Program → State Origin → Bool
+unfolding every numbersFrom
+quiet P s =
+    every
+    (λ r. every (λ q. isEmpty (s .requests r q) && isEmpty (s .deliveries r q)) (numbersFrom 0 (P .header .queues)))
+    (numbersFrom 1 (P .header .ranks))
+
+-- "An open row at the end is 12, placed at the item count, and comes before 13."
+unfoldable pub atEnd : Program → (count : ℕ) → Replayed → Result Replayed
+unfolding quiet
+atEnd P count r = do
+  _ ← require (eqb (r .last .row) 0) barrierRow count
+  _ ← require (quiet P (r .last .machine)) queuesLeft count
+  ok r
+
+-- The replay of a list of items from a start.
+unfoldable pub replay : Program → Start → List Item → Result Replayed
+unfolding begin takeItems atEnd
+replay P start items = do
+  r ← takeItems P (begin start) 0 items
+  atEnd P (length items) r

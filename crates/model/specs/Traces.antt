@@ -1,0 +1,136 @@
+-- Same trace, and plain runs (document 01, "Groups and arrows"). The checker's answer has no part in this file.
+use Prim.Native.Nat.{ℕ, _<_, _≤_}
+use mathlib.Core.Path.{_≡_}
+use mathlib.Core.Bool.{Bool, true, false, _&&_}
+use mathlib.Core.List.{List, [], _∷_}
+use mathlib.Core.Logic.{_↔_}
+use mathlib.Core.Option.{Option, some, none}
+use lib.Dec.{eqb}
+use Rattle.model.specs.declared.Address.{Address}
+use Rattle.model.specs.declared.Header.{Header}
+use Rattle.model.specs.declared.Kind.{Kind}
+use Rattle.model.specs.declared.Kind.the-variants.{Load, Store, Assign, Assume, Read, Write, Popa, Popb, Bar}
+use Rattle.model.specs.declared.Given.{Given}
+use Rattle.model.specs.declared.Given.the-variants.{Value, Absent}
+use Rattle.model.specs.declared.Item.{Item}
+use Rattle.model.specs.Limits.{wordValues}
+use Rattle.model.specs.Refusals.{Result, ok}
+use Rattle.model.specs.Choice.{when}
+use Rattle.model.specs.Programs.{Program}
+use Rattle.model.specs.Machine.{Access, Start}
+use Rattle.model.specs.Replay.{Event, Part, command, fetch, delivery, partOf, sameKind, Replayed, replay}
+use Rattle.model.specs.HappensBefore.{At, isCommand, rankOf, conflict}
+
+-- The transitions that a rank takes, in order.
+unfoldable pub transitionsOf : (rank : ℕ) → List Event → List ℕ
+transitionsOf rank [] = []
+transitionsOf rank (e ∷ events) =
+    when (isCommand e && eqb (rankOf e) rank) (λ _. e .item .transition ∷ transitionsOf rank events) (λ _. transitionsOf rank events)
+
+-- "An access is known by its rank, the place of its command in that rank's sequence, and its part (command, fetch or delivery)."
+pub record Identified (x y : Event) : Type 0 where
+  pub rank : rankOf x ≡ rankOf y
+  pub place : x .place ≡ y .place
+  pub part : partOf (x .item .kind) ≡ partOf (y .item .kind)
+
+-- x stands before y.
+pub record Precedes (events : List Event) (x y : Event) : Type 0 where
+  pub i : ℕ
+  pub j : ℕ
+  pub first : At events i x
+  pub second : At events j y
+  pub before : i < j
+
+infix 20 _∈_
+-- An event of the list.
+abbrev pub _∈_ : Event → List Event → Type 0
+_∈_ e events = (i : ℕ) × At events i e
+
+-- The cell of an access, and its value: "what it reads or writes, whether the item gives it or not".
+abbrev pub cellOf : Event → Option Address
+cellOf e = elim (e .access) [ none ↦ none | some a ↦ some (a .address) ]
+
+abbrev pub valueAt : Event → Option ℕ
+valueAt e = elim (e .access) [ none ↦ none | some a ↦ some (a .value) ]
+
+-- "Same trace: each rank takes the same transitions in the same order, each access is at the same cell, and any two accesses of one cell, one of
+-- them a write, come in the same order."
+pub record SameTrace (events others : List Event) : Type 0 where
+  pub transitions : (rank : ℕ) → transitionsOf rank events ≡ transitionsOf rank others
+  pub cells : (x y : Event) → x ∈ events → y ∈ others → Identified x y → cellOf x ≡ cellOf y
+  pub order : (x x′ y y′ : Event) → x ∈ events → x′ ∈ events → y ∈ others → y′ ∈ others →
+      Identified x y → Identified x′ y′ → conflict (x .access) (x′ .access) ≡ true →
+      (Precedes events x x′ ↔ Precedes others y y′)
+
+-- The same value at each access, by identity.
+abbrev pub SameValues : List Event → List Event → Type 0
+SameValues events others = (x y : Event) → x ∈ events → y ∈ others → Identified x y → valueAt x ≡ valueAt y
+
+-- What holds of each member.
+pub data Each {A : Type 0} (Holds : A → Type 0) : List A → Type 0 where
+  all : Each Holds []
+  one : {a : A} {rest : List A} → Holds a → Each Holds rest → Each Holds (a ∷ rest)
+
+-- The kinds of items that have a place.
+abbrev pub hasPlace : Kind → Bool
+hasPlace Load = true
+hasPlace Store = true
+hasPlace Assign = false
+hasPlace Assume = false
+hasPlace Read = false
+hasPlace Write = false
+hasPlace Popa = true
+hasPlace Popb = true
+hasPlace Bar = false
+
+abbrev pub ChosenIn : Header → Part → Item → Type 0
+ChosenIn h command i = i .transition < h .transitions
+ChosenIn h fetch i = i .queue < h .queues
+ChosenIn h delivery i = i .queue < h .queues
+
+abbrev pub GivenIn : Given → Type 0
+GivenIn (Value v) = v < wordValues
+GivenIn Absent = Unit {0}
+
+-- "items as a record has them": the fields of an item's kind are in their ranges.
+pub record InRecord (h : Header) (i : Item) : Type 0 where
+  pub low : 1 ≤ i .rank
+  pub high : i .rank ≤ h .ranks
+  pub choice : ChosenIn h (partOf (i .kind)) i
+  pub place : hasPlace (i .kind) ≡ true → (1 ≤ i .place .rank) × (i .place .rank ≤ h .ranks) × (i .place .cell < h .cells)
+  pub given : GivenIn (i .given)
+
+-- A pop of this kind, of this event's rank and queue.
+abbrev pub isPop : Kind → Event → Event → Bool
+isPop kind e p = sameKind (p .item .kind) kind && eqb (rankOf p) (rankOf e) && eqb (p .queue) (e .queue)
+
+-- "Each read or write is followed at once by a popa and then a popb of its rank and queue."
+abbrev pub isTransfer : Kind → Bool
+isTransfer Load = false
+isTransfer Store = false
+isTransfer Assign = false
+isTransfer Assume = false
+isTransfer Read = true
+isTransfer Write = true
+isTransfer Popa = false
+isTransfer Popb = false
+isTransfer Bar = false
+
+unfoldable pub followedAtOnce : Event → List Event → Bool
+followedAtOnce e [] = false
+followedAtOnce e (a ∷ []) = false
+followedAtOnce e (a ∷ b ∷ rest) = isPop Popa e a && isPop Popb e b
+
+unfoldable pub transfersTogether : List Event → Bool
+unfolding followedAtOnce
+transfersTogether [] = true
+transfersTogether (e ∷ events) =
+    when (isTransfer (e .item .kind)) (λ _. followedAtOnce e events) (λ _. true) && transfersTogether events
+
+-- Serial runs (document 01: plain run): "for a program and a start, a list of items as a record has them, of any length. Its state is the replay's."
+-- "A list with an item or an end that the replay refuses, or with a transfer not so followed, is no plain run; every other is one." That a barrier
+-- is a row, and that any other command is one item, is the replay's.
+pub record SerialRun (P : Program) (start : Start) (items : List Item) (run : Replayed) : Type 0 where
+  pub in-record : Each (InRecord (P .header)) items
+  pub replayed : replay P start items ≡ ok run
+  pub together : transfersTogether (run .events) ≡ true

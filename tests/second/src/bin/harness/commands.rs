@@ -1,0 +1,202 @@
+//! What each command of the harness does.
+
+use crate::subject::{NAME, SUBJECT};
+use crate::{Done, Failure};
+use second::check::{accept, check_bytes, Answer};
+use second::corpus::{Case, CheckCase, Expected, SlipCase};
+use second::corpus_reader::{corpus_files, read_file};
+use second::families;
+use second::generator::slips::slip_input;
+use second::generator::{input, Input};
+use second::harness::{check_slip_reader, check_writers, compare, compare_case, Histogram};
+use second::judge::{judge, judge_order};
+use second::listing::listing_of_directory;
+use second::machine::Start;
+use second::order::Verdict;
+use std::collections::BTreeSet;
+use std::fmt::Write;
+use std::fs;
+use std::path::Path;
+
+/// Records of at most so many groups go to the exhaustive judge.
+const JUDGED_GROUPS: usize = 7;
+/// One slip and one pair of writers is tried for so many generated inputs.
+const SLIP_EVERY: u64 = 4;
+
+/// Compares the subject with every case of the corpus, and the second program's other answers.
+pub fn corpus(directory: &str) -> Done {
+    let mut histogram = Histogram::default();
+    let mut names = BTreeSet::new();
+    for file in corpus_files(Path::new(directory)).map_err(Failure::Input)? {
+        for case in read_file(&file).map_err(Failure::Input)? {
+            if !names.insert(case.name().to_string()) {
+                let what = format!("{}: a second case named `{}`", file.display(), case.name());
+                return Err(Failure::Input(what));
+            }
+            match &case {
+                Case::Check(case) => corpus_check(case, &mut histogram)?,
+                Case::Slip(case) => corpus_slip(case, &mut histogram)?,
+            }
+        }
+    }
+    Ok(format!("corpus: {} cases agree ({NAME})\n{histogram}", names.len()))
+}
+
+/// One case of the whole check: subject and second program against the case's answer.
+fn corpus_check(case: &CheckCase, histogram: &mut Histogram) -> Result<(), Failure> {
+    let named = |fault: String| Failure::Disagreement(format!("case {}\n{fault}", case.name));
+    let answer = compare_case(SUBJECT, case).map_err(|fault| named(fault.to_string()))?;
+    compare_case(&check_bytes, case)
+        .map_err(|fault| named(format!("the second program differs\n{fault}")))?;
+    check_writers(case).map_err(named)?;
+    histogram.count(answer);
+    Ok(())
+}
+
+/// One case of the slip reader.
+fn corpus_slip(case: &SlipCase, histogram: &mut Histogram) -> Result<(), Failure> {
+    check_slip_reader(case)
+        .map_err(|fault| Failure::Disagreement(format!("slip case {}\n{fault}", case.name)))?;
+    histogram.count_slip(case.answer.clone().map(drop));
+    Ok(())
+}
+
+/// Compares the subject with the second program on generated inputs, and judges their verdicts.
+pub fn generated(seed: u64, count: u64) -> Done {
+    let mut histogram = Histogram::default();
+    let (mut judged_orders, mut judged_rings) = (0, 0);
+    for index in 0..count {
+        let input = input(seed, index);
+        let named = |fault: String| {
+            Failure::Disagreement(format!("seed {seed}, index {index}\n{fault}"))
+        };
+        let answer = compare(SUBJECT, &input).map_err(|fault| named(fault.to_string()))?;
+        histogram.count(answer);
+        if !matches!(answer, Answer::Refused(_)) {
+            match judged(&input).map_err(|fault| named(fault + "\n" + &hexed(&input)))? {
+                Some(Verdict::Order(_)) => judged_orders += 1,
+                Some(Verdict::Ring(_)) => judged_rings += 1,
+                None => {}
+            }
+        }
+        if index % SLIP_EVERY == 0 {
+            generated_extras(seed, index, &input, &mut histogram).map_err(named)?;
+        }
+    }
+    let judged = format!("judged by search: {judged_orders} orders, {judged_rings} rings");
+    Ok(format!("generated: {count} inputs agree, seed {seed} ({NAME})\n{judged}\n{histogram}"))
+}
+
+/// Judges an accepted input: every order as a plain run, and small records by search.
+fn judged(input: &Input) -> Result<Option<Verdict>, String> {
+    let accepted = accept(&input.program, &input.record)
+        .map_err(|refusal| format!("accepted and refused: {refusal:?}"))?;
+    let start = Start::zero(&accepted.program);
+    if accepted.grouping.groups.len() <= JUDGED_GROUPS {
+        judge(&accepted, &start)?;
+        return Ok(Some(accepted.verdict));
+    }
+    if let Verdict::Order(order) = &accepted.verdict {
+        judge_order(&accepted, &start, order)?;
+    }
+    Ok(None)
+}
+
+/// The second program's listing, slip writer and slip reader on generated inputs.
+fn generated_extras(
+    seed: u64,
+    index: u64,
+    input: &Input,
+    histogram: &mut Histogram,
+) -> Result<(), String> {
+    let (program, record) = (input.program.clone(), input.record.clone());
+    let entries = (input.order_bytes / 2, input.cell_bytes / 2);
+    let case = CheckCase::answered(String::new(), program, record, entries.0, entries.1);
+    check_writers(&case)?;
+    if let Some(slip) = case.slip {
+        let ranks = usize::from(input.program[0]);
+        let read = SlipCase::answered(String::new(), ranks, slip, ranks);
+        read.answer.map_err(|refusal| format!("an own slip is refused: {refusal:?}"))?;
+    }
+    let slip = slip_input(seed, index);
+    let case = SlipCase::answered(String::new(), slip.ranks, slip.slip, slip.counts_entries);
+    check_slip_reader(&case)?;
+    histogram.count_slip(case.answer.map(drop));
+    Ok(())
+}
+
+/// An input's bytes for a person.
+fn hexed(input: &Input) -> String {
+    use second::corpus::to_hex;
+    format!("program {}\nrecord {}", to_hex(&input.program), to_hex(&input.record))
+}
+
+/// Makes the corpus files.
+pub fn write_corpus(directory: &str, seed: u64) -> Done {
+    let mut report = String::new();
+    for file in families::files(seed).map_err(Failure::Disagreement)? {
+        let path = Path::new(directory).join(file.name);
+        fs::write(&path, &file.text)
+            .map_err(|error| Failure::Input(format!("{}: {error}", path.display())))?;
+        let _ = writeln!(report, "{}: {} bytes", file.name, file.text.len());
+    }
+    Ok(report)
+}
+
+/// Prints the second program's answer and listing for the cases of a file, or for one of them.
+pub fn show(file: &str, name: Option<&str>) -> Done {
+    let mut report = String::new();
+    for case in read_file(Path::new(file)).map_err(Failure::Input)? {
+        if name.is_none_or(|name| name == case.name()) {
+            report.push_str(&shown(&case));
+        }
+    }
+    match name {
+        Some(name) if report.is_empty() => {
+            Err(Failure::Input(format!("{file}: no case named `{name}`")))
+        }
+        _ => Ok(report),
+    }
+}
+
+/// One case for a person: its answer, its listing, and whether the file says the same.
+fn shown(case: &Case) -> String {
+    let (again, lines) = match case {
+        Case::Check(case) => {
+            let (program, record) = (case.program.clone(), case.record.clone());
+            let entries = (case.order_entries, case.cell_entries);
+            let again =
+                CheckCase::answered(case.name.clone(), program, record, entries.0, entries.1);
+            let lines = format!("{}\n{}", answer_line(&again), again.listing);
+            (Case::Check(again), lines)
+        }
+        Case::Slip(case) => {
+            let (name, slip) = (case.name.clone(), case.slip.clone());
+            let again = SlipCase::answered(name, case.ranks, slip, case.counts_entries);
+            let lines = format!("answer {:?}\n", again.answer);
+            (Case::Slip(again), lines)
+        }
+    };
+    let same = if again == *case { "as the file says" } else { "NOT as the file says" };
+    format!("{}: {same}\n{lines}", case.name())
+}
+
+/// The answer of a check case in one line.
+fn answer_line(case: &CheckCase) -> String {
+    match &case.answer {
+        Expected::Order(groups) => format!("answer order {groups:?} cells {:?}", case.cells),
+        Expected::Ring(groups) => format!("answer ring {groups:?} cells {:?}", case.cells),
+        Expected::Refused(refusal) => {
+            format!("answer refused {} at {}", refusal.number, refusal.place)
+        }
+    }
+}
+
+/// The listing program on a directory's `run.prg` and `run.rec`; a file not opened is empty.
+pub fn listing(directory: &str) -> Done {
+    let directory = Path::new(directory);
+    if !directory.is_dir() {
+        return Err(Failure::Input(format!("{}: no directory", directory.display())));
+    }
+    Ok(listing_of_directory(directory))
+}

@@ -1,0 +1,74 @@
+//! The harness's commands; see `USAGE`.
+
+#![deny(unsafe_code)]
+#![warn(missing_docs)]
+
+mod commands;
+mod subject;
+
+use std::process::ExitCode;
+
+/// What is printed when the arguments are not understood.
+const USAGE: &str = "usage:
+  harness corpus DIR              compare the subject with every case of the corpus
+  harness generated SEED COUNT    compare the subject with the second program on generated inputs
+  harness write-corpus DIR SEED   make the corpus files (all but the hand-written ones)
+  harness show FILE [NAME]        print answer and listing of the cases of a corpus file
+  harness listing DIR             print the listing of DIR/run.prg and DIR/run.rec";
+
+/// How a command ends when it does not succeed.
+#[derive(Debug)]
+pub enum Failure {
+    /// Bad arguments, unreadable files, malformed corpus files: exit status 2.
+    Input(String),
+    /// A disagreement: exit status 1.
+    Disagreement(String),
+}
+
+/// What every command returns: what it prints at the end.
+pub type Done = Result<String, Failure>;
+
+/// Reads a decimal argument.
+fn number(what: &str, text: &str) -> Result<u64, Failure> {
+    text.parse().map_err(|_| Failure::Input(format!("{what} `{text}` is no number")))
+}
+
+/// Runs the command that the arguments name.
+fn run(arguments: &[&str]) -> Done {
+    match arguments {
+        ["corpus", directory] => commands::corpus(directory),
+        ["generated", seed, count] => {
+            commands::generated(number("SEED", seed)?, number("COUNT", count)?)
+        }
+        ["write-corpus", directory, seed] => {
+            commands::write_corpus(directory, number("SEED", seed)?)
+        }
+        ["show", file] => commands::show(file, None),
+        ["show", file, name] => commands::show(file, Some(name)),
+        ["listing", directory] => commands::listing(directory),
+        _ => Err(Failure::Input(USAGE.into())),
+    }
+}
+
+/// Runs the command and turns its end into an exit status.
+fn main() -> ExitCode {
+    let arguments: Vec<String> = std::env::args_os()
+        .skip(1)
+        .map(|argument| argument.to_string_lossy().into_owned())
+        .collect();
+    let arguments: Vec<&str> = arguments.iter().map(String::as_str).collect();
+    match run(&arguments) {
+        Ok(text) => {
+            print!("{text}");
+            ExitCode::SUCCESS
+        }
+        Err(Failure::Disagreement(text)) => {
+            println!("{text}");
+            ExitCode::from(1)
+        }
+        Err(Failure::Input(text)) => {
+            eprintln!("harness: {text}");
+            ExitCode::from(2)
+        }
+    }
+}

@@ -1,0 +1,112 @@
+//! The whole check, on lists of 16-bit entries and on bytes.
+
+use crate::bytes::fill_words;
+use crate::groups::{arrows, gather, Grouping};
+use crate::limits::{number, refuse, Outcome, Refusal};
+use crate::machine::{replay, Machine, Run, Start};
+use crate::order::{decide, Verdict};
+use crate::program::Program;
+use crate::record::{read_record, Item};
+
+/// An answer of the whole check; order and ring carry the count of entries filled.
+#[derive(Debug, Clone, Copy, PartialEq, Eq)]
+pub enum Answer {
+    /// An order of so many groups.
+    Order(usize),
+    /// A ring of so many groups.
+    Ring(usize),
+    /// A refusal with its number and place.
+    Refused(Refusal),
+}
+
+/// All that is known of an accepted run, before any lent memory is looked at.
+#[derive(Debug, Clone)]
+pub struct Accepted {
+    /// The program.
+    pub program: Program,
+    /// The record's items.
+    pub items: Vec<Item>,
+    /// The run they make.
+    pub run: Run,
+    /// Its groups.
+    pub grouping: Grouping,
+    /// Its order or ring.
+    pub verdict: Verdict,
+}
+
+/// Reads program and record, replays, and decides; refuses with 1 to 13.
+pub fn accept(program: &[u8], record: &[u8]) -> Outcome<Accepted> {
+    let program = Program::read(program)?;
+    let items = read_record(record, &program)?;
+    let run = replay(&program, &Start::zero(&program), &items)?;
+    let grouping = gather(&run.steps);
+    let arrows = arrows(&run.steps, &grouping.group_of);
+    let verdict = decide(grouping.groups.len(), &arrows);
+    Ok(Accepted { program, items, run, grouping, verdict })
+}
+
+/// The last cell values, rank 1 first.
+pub fn last_cells(machine: &Machine) -> Vec<u16> {
+    machine.ranks.iter().flat_map(|rank| rank.cells.iter().copied()).collect()
+}
+
+/// What a check says and what it fills into the two lists.
+#[derive(Debug, Clone, PartialEq, Eq)]
+pub struct Filled {
+    /// The answer.
+    pub answer: Answer,
+    /// The group numbers for the order list.
+    pub groups: Vec<u16>,
+    /// The values for the cell list.
+    pub cells: Vec<u16>,
+}
+
+/// The answer with its entries, for lists of so many entries; nothing is filled on a refusal.
+pub fn answer(program: &[u8], record: &[u8], order_entries: usize, cell_entries: usize) -> Filled {
+    match fit(program, record, order_entries, cell_entries) {
+        Ok(filled) => filled,
+        Err(refusal) => {
+            Filled { answer: Answer::Refused(refusal), groups: Vec::new(), cells: Vec::new() }
+        }
+    }
+}
+
+/// As `answer`, but a refusal is an early return: 1 to 13, then 14, then 15.
+fn fit(
+    program: &[u8],
+    record: &[u8],
+    order_entries: usize,
+    cell_entries: usize,
+) -> Outcome<Filled> {
+    let accepted = accept(program, record)?;
+    let group_count = accepted.grouping.groups.len();
+    if order_entries < group_count {
+        return refuse(number::ORDER_SHORT, group_count);
+    }
+    let cells = last_cells(&accepted.run.last);
+    if cell_entries < cells.len() {
+        return refuse(number::MEMORY_SHORT, cells.len());
+    }
+    let groups: Vec<u16> = accepted.verdict.groups().iter().map(|&group| group as u16).collect();
+    let answer = match accepted.verdict {
+        Verdict::Order(_) => Answer::Order(groups.len()),
+        Verdict::Ring(_) => Answer::Ring(groups.len()),
+    };
+    Ok(Filled { answer, groups, cells })
+}
+
+/// The whole check on lent lists of 16-bit entries.
+pub fn check(program: &[u8], record: &[u8], order: &mut [u16], cells: &mut [u16]) -> Answer {
+    let filled = answer(program, record, order.len(), cells.len());
+    order[..filled.groups.len()].copy_from_slice(&filled.groups);
+    cells[..filled.cells.len()].copy_from_slice(&filled.cells);
+    filled.answer
+}
+
+/// The whole check on lent bytes, two an entry, big-endian; an odd last byte is never used.
+pub fn check_bytes(program: &[u8], record: &[u8], order: &mut [u8], cells: &mut [u8]) -> Answer {
+    let filled = answer(program, record, order.len() / 2, cells.len() / 2);
+    fill_words(order, &filled.groups);
+    fill_words(cells, &filled.cells);
+    filled.answer
+}

@@ -1,0 +1,132 @@
+//! Cases chosen from the generator: small judged runs, and refusals at many places.
+
+use super::Named;
+use crate::check::{accept, Accepted, Answer};
+use crate::corpus::{Case, CheckCase};
+use crate::generator::rng::Rng;
+use crate::generator::{input, small_run};
+use crate::judge::judge;
+use crate::limits::Refusal;
+use crate::machine::Start;
+use crate::order::Verdict;
+use crate::program::Kind;
+use crate::record::record_bytes;
+use std::collections::{BTreeMap, BTreeSet};
+
+/// How many cases each class of judged runs has for each kind that its groups may have.
+const PER_KIND: usize = 9;
+/// How many cases each refusal number has.
+const PER_NUMBER: usize = 12;
+/// Chosen programs and records have at most so many bytes each.
+const LARGEST: usize = 500;
+/// So many generated inputs are looked through at most.
+const PATIENCE: u64 = 400_000;
+
+/// The class of a judged run: a ring, the record's own order, or another order.
+#[derive(Debug, Clone, Copy, PartialEq, Eq, PartialOrd, Ord)]
+enum Class {
+    /// A ring.
+    Ring,
+    /// The groups in the order of their numbers.
+    Own,
+    /// The groups in another order.
+    Other,
+}
+
+/// The class of an accepted run.
+fn class(accepted: &Accepted) -> Class {
+    match &accepted.verdict {
+        Verdict::Ring(_) => Class::Ring,
+        Verdict::Order(order) if order.is_sorted() => Class::Own,
+        Verdict::Order(_) => Class::Other,
+    }
+}
+
+/// The kinds of the groups that the verdict lists.
+fn kinds(accepted: &Accepted) -> BTreeSet<Kind> {
+    let kind_of = |&group: &usize| accepted.grouping.groups[group].kind;
+    accepted.verdict.groups().iter().map(kind_of).collect()
+}
+
+/// Judged runs: for each class and each kind of group some runs that list such a group.
+pub fn judged_file(seed: u64) -> Result<Named, String> {
+    let mut wanted: BTreeMap<(Class, Kind), usize> = BTreeMap::new();
+    for class in [Class::Ring, Class::Own, Class::Other] {
+        for kind in crate::program::KINDS {
+            if !matches!(kind, Kind::PopA | Kind::PopB) {
+                wanted.insert((class, kind), PER_KIND);
+            }
+        }
+    }
+    let mut cases = Vec::new();
+    for index in 0..PATIENCE {
+        if wanted.values().all(|&left| left == 0) {
+            break;
+        }
+        cases.extend(judged_case(seed, index, &mut wanted)?.map(Case::Check));
+    }
+    if let Some((kind, left)) = wanted.iter().find(|(_, &left)| left > 0) {
+        return Err(format!("{left} judged runs of {kind:?} were not found under seed {seed}"));
+    }
+    let head = "# Small accepted runs; each order or ring confirmed by the exhaustive judge.\n";
+    Ok(Named::new("judged.txt", head, &cases))
+}
+
+/// The small run of this number as a case, if it has a kind of group still wanted in its class.
+fn judged_case(
+    seed: u64,
+    index: u64,
+    wanted: &mut BTreeMap<(Class, Kind), usize>,
+) -> Result<Option<CheckCase>, String> {
+    let (program, items) = small_run(&mut Rng::new(seed, index));
+    let (program, record) = (program.to_bytes(), record_bytes(&items));
+    let accepted = accept(&program, &record)
+        .map_err(|refusal| format!("seed {seed}, index {index}: refused, {refusal:?}"))?;
+    let (class, kinds) = (class(&accepted), kinds(&accepted));
+    let is_wanted = kinds.iter().any(|&kind| wanted.get(&(class, kind)).is_some_and(|&n| n > 0));
+    if !is_wanted || accepted.grouping.groups.len() < 2 {
+        return Ok(None);
+    }
+    judge(&accepted, &Start::zero(&accepted.program))
+        .map_err(|fault| format!("seed {seed}, index {index}: {fault}"))?;
+    for kind in kinds {
+        if let Some(left) = wanted.get_mut(&(class, kind)) {
+            *left = left.saturating_sub(1);
+        }
+    }
+    let name = format!("judged-{index}");
+    let (groups, cells) = (accepted.grouping.groups.len(), accepted.run.last.ranks.len());
+    let entries = (groups, cells * accepted.program.cells);
+    Ok(Some(CheckCase::answered(name, program, record, entries.0, entries.1)))
+}
+
+/// Refusals: for each number 1 to 15 some generated inputs at places as different as can be.
+pub fn refused_file(seed: u64) -> Result<Named, String> {
+    let mut found: BTreeMap<u8, BTreeMap<usize, CheckCase>> = BTreeMap::new();
+    for index in 0..PATIENCE {
+        if found.len() == 15 && found.values().all(|places| places.len() >= PER_NUMBER) {
+            break;
+        }
+        let input = input(seed, index);
+        if input.program.len() > LARGEST || input.record.len() > LARGEST {
+            continue;
+        }
+        let entries = (input.order_bytes / 2, input.cell_bytes / 2);
+        let filled = crate::check::answer(&input.program, &input.record, entries.0, entries.1);
+        let Answer::Refused(Refusal { number, place }) = filled.answer else { continue };
+        let places = found.entry(number).or_default();
+        if places.len() < PER_NUMBER && !places.contains_key(&place) {
+            let name = format!("refused-{number}-{index}");
+            let (program, record) = (input.program, input.record);
+            let case = CheckCase::answered(name, program, record, entries.0, entries.1);
+            places.insert(place, case);
+        }
+    }
+    let cases = found.into_values().flat_map(BTreeMap::into_values).map(Case::Check);
+    let cases: Vec<Case> = cases.collect();
+    if cases.len() < 15 * PER_NUMBER {
+        return Err(format!("only {} refusals were found under seed {seed}", cases.len()));
+    }
+    let head = "# Generated inputs that are refused, each number at different places.\n";
+    Ok(Named::new("refused.txt", head, &cases))
+}

@@ -1,0 +1,80 @@
+//! The families of the corpus, made the same from the same seed.
+
+pub mod base;
+pub mod chosen;
+pub mod extremes;
+pub mod replay_table;
+pub mod slips;
+pub mod table;
+
+use crate::check::accept;
+use crate::corpus::{Case, CheckCase, Expected};
+use crate::judge::judge_order;
+use crate::limits::{MAX_CELLS, MAX_ITEMS, MAX_RANKS};
+use crate::machine::Start;
+use crate::order::Verdict;
+
+/// A corpus file: its name and its text.
+#[derive(Debug, Clone, PartialEq, Eq)]
+pub struct Named {
+    /// The file's name.
+    pub name: &'static str,
+    /// The file's text.
+    pub text: String,
+}
+
+impl Named {
+    /// A file of these cases under a head of comments.
+    pub fn new(name: &'static str, head: &str, cases: &[Case]) -> Named {
+        let mut text = head.to_string();
+        for case in cases {
+            text.push('\n');
+            text.push_str(&case.to_text());
+        }
+        Named { name, text }
+    }
+}
+
+/// All corpus files that are made and not written by hand.
+pub fn files(seed: u64) -> Result<Vec<Named>, String> {
+    Ok(vec![
+        table_file()?,
+        extremes_file()?,
+        chosen::judged_file(seed)?,
+        chosen::refused_file(seed)?,
+        slips::file(seed)?,
+    ])
+}
+
+/// The file of the table's rows; a row that the second program answers otherwise is a fault.
+fn table_file() -> Result<Named, String> {
+    let mut cases = Vec::new();
+    for row in table::rows() {
+        let (order, cells) = (row.order_entries, row.cell_entries);
+        let case = CheckCase::answered(row.name, row.program, row.record, order, cells);
+        if case.answer != Expected::Refused(row.refusal) {
+            return Err(format!("{}: {:?}, by hand {:?}", case.name, case.answer, row.refusal));
+        }
+        cases.push(Case::Check(case));
+    }
+    let head = "# Every row of document 01's table; numbers and places worked out by hand.\n";
+    Ok(Named::new("table.txt", head, &cases))
+}
+
+/// The file of extremes; every order is replayed as a plain run.
+fn extremes_file() -> Result<Named, String> {
+    let mut cases = Vec::new();
+    for extreme in extremes::extremes() {
+        if let Ok(accepted) = accept(&extreme.program, &extreme.record) {
+            if let Verdict::Order(order) = &accepted.verdict {
+                judge_order(&accepted, &Start::zero(&accepted.program), order)?;
+            }
+        }
+        let name = extreme.name.to_string();
+        let (program, record) = (extreme.program, extreme.record);
+        let lists = (MAX_ITEMS, MAX_RANKS * MAX_CELLS);
+        cases.push(Case::Check(CheckCase::answered(name, program, record, lists.0, lists.1)));
+    }
+    let head = "# Extremes: the limits of document 01 and the long ways round; run m among them.\n";
+    Ok(Named::new("extremes.txt", head, &cases))
+}

@@ -1,0 +1,93 @@
+//! Seeded, repeatable inputs: random programs, executions of them, and damage.
+
+pub mod damage;
+pub mod executions;
+pub mod expressions;
+pub mod programs;
+pub mod rng;
+pub mod slips;
+
+use crate::machine::Start;
+use crate::program::{Kind, Program};
+use crate::record::{record_bytes, Item};
+use executions::{execution, pace};
+use programs::{Size, CROWDED, SMALL, WIDE};
+use rng::Rng;
+
+/// One input of the whole check.
+#[derive(Debug, Clone, PartialEq, Eq)]
+pub struct Input {
+    /// The program bytes.
+    pub program: Vec<u8>,
+    /// The record bytes.
+    pub record: Vec<u8>,
+    /// The bytes of the order list.
+    pub order_bytes: usize,
+    /// The bytes of the cell list.
+    pub cell_bytes: usize,
+}
+
+/// A profile of random runs: the program's size and the record's.
+#[derive(Debug, Clone, Copy)]
+struct Profile {
+    /// The largest program.
+    size: Size,
+    /// The most items.
+    items: usize,
+    /// The most groups.
+    groups: usize,
+}
+
+/// A random small run, for the exhaustive judge: at most 16 items in at most 7 groups.
+pub fn small_run(rng: &mut Rng) -> (Program, Vec<Item>) {
+    run(rng, Profile { size: SMALL, items: 16, groups: 7 })
+}
+
+/// A random program and an execution of it from document 01's start.
+fn run(rng: &mut Rng, profile: Profile) -> (Program, Vec<Item>) {
+    let program = programs::program(rng, profile.size);
+    let groups = rng.within(0..=profile.groups).max(rng.within(0..=profile.groups));
+    let pace = pace(rng, profile.items, groups);
+    let items = execution(rng, &program, &Start::zero(&program), pace);
+    (program, items)
+}
+
+/// A random profile: mostly small runs, now and then up to all limits.
+fn profile(rng: &mut Rng) -> Profile {
+    match rng.below(100) {
+        0..=59 => Profile { size: SMALL, items: 16, groups: 7 },
+        60..=79 => Profile { size: CROWDED, items: 40, groups: 20 },
+        80..=97 => Profile { size: WIDE, items: 60, groups: 40 },
+        98 => Profile { size: CROWDED, items: 1024, groups: 1024 },
+        _ => Profile { size: WIDE, items: 1024, groups: 1024 },
+    }
+}
+
+/// How many groups the items make, a row counting once.
+pub fn group_count(program: &Program, items: &[Item]) -> usize {
+    let of_kind = |kind: Kind| items.iter().filter(|item| item.act.kind() == kind).count();
+    let commands = items.iter().filter(|item| item.act.transition().is_some()).count();
+    let bars = of_kind(Kind::Bar);
+    commands - bars + bars / program.ranks
+}
+
+/// The input of this number under this seed; half of them are damaged.
+pub fn input(seed: u64, index: u64) -> Input {
+    let mut rng = Rng::new(seed, index);
+    let profile = profile(&mut rng);
+    let (program, mut items) = run(&mut rng, profile);
+    let groups = group_count(&program, &items);
+    let mut input = Input {
+        program: program.to_bytes(),
+        record: record_bytes(&items),
+        order_bytes: 2 * groups + rng.below(6),
+        cell_bytes: 2 * program.ranks * program.cells + rng.below(6),
+    };
+    if rng.chance(1, 2) {
+        let times = *rng.pick(&[1, 1, 1, 2]);
+        for _ in 0..times {
+            damage::damage(&mut rng, &program, &mut items, &mut input);
+        }
+    }
+    input
+}

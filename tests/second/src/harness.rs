@@ -1,0 +1,260 @@
+//! The harness: compares any subject with the second program, lent bytes and all.
+
+use crate::bytes::fill_words;
+use crate::check::{check_bytes, Answer};
+use crate::corpus::{to_hex, CheckCase, Expected, SlipCase};
+use crate::generator::Input;
+use crate::limits::{number, Refusal};
+use crate::listing::{write_listing, Listed};
+use crate::slip::{read_slip, write_slip};
+use std::collections::BTreeMap;
+use std::fmt;
+
+/// A whole check: program, record, order bytes, cell bytes; two bytes an entry, big-endian.
+pub type Subject<'a> = &'a dyn Fn(&[u8], &[u8], &mut [u8], &mut [u8]) -> Answer;
+
+/// So many bytes before and after each lent list belong to nobody and must stay.
+const GUARD: usize = 16;
+
+/// What a check answered, and both lists afterwards with the guards around them.
+#[derive(Clone, PartialEq, Eq)]
+pub struct Observed {
+    /// The answer.
+    pub answer: Answer,
+    /// The order list in its guards.
+    pub order: Vec<u8>,
+    /// The cell list in its guards.
+    pub cells: Vec<u8>,
+}
+
+/// A disagreement between what is right and what a subject did.
+#[derive(Debug)]
+pub struct Disagreement {
+    /// The input.
+    pub input: Input,
+    /// What is right.
+    pub right: Observed,
+    /// What the subject did.
+    pub subject: Observed,
+}
+
+impl fmt::Debug for Observed {
+    fn fmt(&self, out: &mut fmt::Formatter) -> fmt::Result {
+        writeln!(out, "{:?}", self.answer)?;
+        writeln!(out, "  order list {}", to_hex(&self.order))?;
+        write!(out, "  cell list  {}", to_hex(&self.cells))
+    }
+}
+
+impl fmt::Display for Disagreement {
+    fn fmt(&self, out: &mut fmt::Formatter) -> fmt::Result {
+        writeln!(out, "program {}", to_hex(&self.input.program))?;
+        writeln!(out, "record {}", to_hex(&self.input.record))?;
+        writeln!(out, "order bytes {}", self.input.order_bytes)?;
+        writeln!(out, "cell bytes {}", self.input.cell_bytes)?;
+        writeln!(out, "(both lists below have {GUARD} guard bytes before and after)")?;
+        writeln!(out, "right: {:?}", self.right)?;
+        write!(out, "subject: {:?}", self.subject)
+    }
+}
+
+/// A list of so many bytes in its guards, all filled with bytes that change from place to place.
+fn lent(bytes: usize) -> Vec<u8> {
+    (0..bytes + 2 * GUARD).map(|at| 0xC0 | (at % 61) as u8).collect()
+}
+
+/// The part of a guarded list that is lent.
+fn inner(list: &mut [u8]) -> &mut [u8] {
+    let end = list.len() - GUARD;
+    &mut list[GUARD..end]
+}
+
+/// Lends fresh lists to a subject and notes what it does.
+pub fn observe(subject: Subject, input: &Input) -> Observed {
+    let mut order = lent(input.order_bytes);
+    let mut cells = lent(input.cell_bytes);
+    let answer = subject(&input.program, &input.record, inner(&mut order), inner(&mut cells));
+    Observed { answer, order, cells }
+}
+
+/// Compares a subject with the second program on one input.
+pub fn compare(subject: Subject, input: &Input) -> Result<Answer, Box<Disagreement>> {
+    let right = observe(&check_bytes, input);
+    agree(subject, input, right)
+}
+
+/// Compares a subject with what is right.
+fn agree(subject: Subject, input: &Input, right: Observed) -> Result<Answer, Box<Disagreement>> {
+    let subject = observe(subject, input);
+    if subject == right {
+        return Ok(right.answer);
+    }
+    Err(Box::new(Disagreement { input: input.clone(), right, subject }))
+}
+
+/// Compares a subject with the answer a corpus case holds, with even and with odd list lengths.
+pub fn compare_case(subject: Subject, case: &CheckCase) -> Result<Answer, Box<Disagreement>> {
+    agree(subject, &input_of(case, 1), observed_of(case, 1))?;
+    agree(subject, &input_of(case, 0), observed_of(case, 0))
+}
+
+/// The input of a corpus case, with so many odd bytes at the end of each list.
+pub fn input_of(case: &CheckCase, odd: usize) -> Input {
+    Input {
+        program: case.program.clone(),
+        record: case.record.clone(),
+        order_bytes: 2 * case.order_entries + odd,
+        cell_bytes: 2 * case.cell_entries + odd,
+    }
+}
+
+/// What a right subject does on a corpus case.
+fn observed_of(case: &CheckCase, odd: usize) -> Observed {
+    let mut order = lent(2 * case.order_entries + odd);
+    let mut cells = lent(2 * case.cell_entries + odd);
+    let answer = match &case.answer {
+        Expected::Order(groups) => {
+            fill_words(inner(&mut order), groups);
+            Answer::Order(groups.len())
+        }
+        Expected::Ring(groups) => {
+            fill_words(inner(&mut order), groups);
+            Answer::Ring(groups.len())
+        }
+        Expected::Refused(refusal) => Answer::Refused(*refusal),
+    };
+    fill_words(inner(&mut cells), &case.cells);
+    Observed { answer, order, cells }
+}
+
+/// Checks the second program's listing and slip on a corpus case, memory one byte short included.
+pub fn check_writers(case: &CheckCase) -> Result<(), String> {
+    check_listing(case)?;
+    check_slip_writer(case)
+}
+
+/// The refusal of a case whose program or record is refused.
+fn refusal_of(case: &CheckCase) -> Option<Refusal> {
+    match case.answer {
+        Expected::Refused(refusal) if case.slip.is_none() => Some(refusal),
+        _ => None,
+    }
+}
+
+/// Checks the listing in memory with bytes to spare and in memory one byte short.
+fn check_listing(case: &CheckCase) -> Result<(), String> {
+    let length = case.listing.len();
+    let mut right = lent(length);
+    right[..length].copy_from_slice(case.listing.as_bytes());
+    let mut memory = lent(length);
+    let listed = write_listing(&case.program, &case.record, &mut memory);
+    if listed != (Listed { written: length, refusal: refusal_of(case) }) || memory != right {
+        return Err(format!("the listing differs: {listed:?}"));
+    }
+    let mut memory = lent(length);
+    let listed = write_listing(&case.program, &case.record, &mut memory[..length - 1]);
+    let short = Refusal { number: number::MEMORY_SHORT, place: length };
+    if listed != (Listed { written: 0, refusal: Some(short) }) || memory != lent(length) {
+        return Err(format!("the listing in short memory differs: {listed:?}"));
+    }
+    Ok(())
+}
+
+/// Checks the slip writer in memory with bytes to spare and in memory one byte short.
+fn check_slip_writer(case: &CheckCase) -> Result<(), String> {
+    let slip = case.slip.clone().unwrap_or_default();
+    let mut right = lent(slip.len());
+    right[..slip.len()].copy_from_slice(&slip);
+    let mut memory = lent(slip.len());
+    let written = write_slip(&case.program, &case.record, &mut memory);
+    let expected = refusal_of(case).map_or(Ok(slip.len()), Err);
+    if written != expected || memory != right {
+        return Err(format!("the slip differs: {written:?}"));
+    }
+    if slip.is_empty() {
+        return Ok(());
+    }
+    let mut memory = lent(slip.len());
+    let written = write_slip(&case.program, &case.record, &mut memory[..slip.len() - 1]);
+    let short = Refusal { number: number::MEMORY_SHORT, place: slip.len() };
+    if written != Err(short) || memory != lent(slip.len()) {
+        return Err(format!("the slip in short memory differs: {written:?}"));
+    }
+    Ok(())
+}
+
+/// Checks the second program's slip reader on a corpus case, entries beyond the counts included.
+pub fn check_slip_reader(case: &SlipCase) -> Result<Answer, String> {
+    let fresh: Vec<u16> = (0..case.counts_entries).map(|at| 0xC0C0 + at as u16).collect();
+    let mut right = fresh.clone();
+    if let Ok(counts) = &case.answer {
+        right[..counts.len()].copy_from_slice(counts);
+    }
+    let mut counts = fresh;
+    let answer = read_slip(case.ranks, &case.slip, &mut counts);
+    if answer != case.answer.clone().map(drop) || counts != right {
+        return Err(format!("the slip reader differs: {answer:?}, counts {counts:?}"));
+    }
+    Ok(answer.map_or_else(Answer::Refused, |()| Answer::Order(case.ranks)))
+}
+
+/// How often each kind of answer came.
+#[derive(Debug, Default, Clone, PartialEq, Eq)]
+pub struct Histogram {
+    /// Orders with at least one group.
+    pub orders: usize,
+    /// Orders of no groups.
+    pub empty_orders: usize,
+    /// Rings.
+    pub rings: usize,
+    /// Slips read.
+    pub slips: usize,
+    /// Refusals by number, and by place under each number.
+    pub refused: BTreeMap<u8, BTreeMap<usize, usize>>,
+}
+
+impl Histogram {
+    /// Counts an answer of the whole check.
+    pub fn count(&mut self, answer: Answer) {
+        match answer {
+            Answer::Order(0) => self.empty_orders += 1,
+            Answer::Order(_) => self.orders += 1,
+            Answer::Ring(_) => self.rings += 1,
+            Answer::Refused(refusal) => self.count_refusal(refusal),
+        }
+    }
+
+    /// Counts an answer of the slip reader.
+    pub fn count_slip(&mut self, answer: Result<(), Refusal>) {
+        match answer {
+            Ok(()) => self.slips += 1,
+            Err(refusal) => self.count_refusal(refusal),
+        }
+    }
+
+    /// Counts a refusal.
+    fn count_refusal(&mut self, refusal: Refusal) {
+        let places = self.refused.entry(refusal.number).or_default();
+        *places.entry(refusal.place).or_default() += 1;
+    }
+
+    /// How often a number came.
+    pub fn refusals(&self, number: u8) -> usize {
+        self.refused.get(&number).map_or(0, |places| places.values().sum())
+    }
+}
+
+impl fmt::Display for Histogram {
+    fn fmt(&self, out: &mut fmt::Formatter) -> fmt::Result {
+        writeln!(out, "orders      {:8}", self.orders)?;
+        writeln!(out, "order of 0  {:8}", self.empty_orders)?;
+        writeln!(out, "rings       {:8}", self.rings)?;
+        writeln!(out, "slips read  {:8}", self.slips)?;
+        for number in 1..=16 {
+            let places = self.refused.get(&number).map_or(0, BTreeMap::len);
+            let times = self.refusals(number);
+            writeln!(out, "refused {number:2}  {times:8}  at {places} places")?;
+        }
+        Ok(())
+    }
+}

@@ -1,0 +1,23 @@
+//! Document 01 once more, by another road: a second implementation, simple and literal,
+//! with an exhaustive judge, a generator, a corpus and a harness.
+
+#![forbid(unsafe_code)]
+#![warn(missing_docs)]
+
+pub mod bytes;
+pub mod check;
+pub mod corpus;
+pub mod corpus_reader;
+pub mod expression;
+pub mod families;
+pub mod generator;
+pub mod groups;
+pub mod harness;
+pub mod judge;
+pub mod limits;
+pub mod listing;
+pub mod machine;
+pub mod order;
+pub mod program;
+pub mod record;
+pub mod slip;

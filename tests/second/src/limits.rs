@@ -1,0 +1,71 @@
+//! The limits of document 01, and what a refusal is.
+
+/// The largest N; ranks run from 1 to N.
+pub const MAX_RANKS: usize = 8;
+/// The largest number of cells a rank may have.
+pub const MAX_CELLS: usize = 64;
+/// The largest number of registers a rank may have.
+pub const MAX_REGISTERS: usize = 16;
+/// The largest number of queues a rank may have.
+pub const MAX_QUEUES: usize = 4;
+/// The largest number of control states.
+pub const MAX_STATES: usize = 64;
+/// The largest number of transitions.
+pub const MAX_TRANSITIONS: usize = 128;
+/// The largest number of tokens in one expression.
+pub const MAX_TOKENS: usize = 15;
+/// The largest number of items in a record, and the largest count in a slip.
+pub const MAX_ITEMS: usize = 1024;
+
+/// The numbers of document 01's table of refusals, by name.
+pub mod number {
+    /// The program ends early or has bytes left over.
+    pub const PROGRAM_LENGTH: u8 = 1;
+    /// A header number, state or register is outside its range.
+    pub const PROGRAM_RANGE: u8 = 2;
+    /// An unknown kind, a map not the kind's, an unknown or a sixteenth token.
+    pub const PROGRAM_FORM: u8 = 3;
+    /// The record ends early or has bytes left over.
+    pub const RECORD_LENGTH: u8 = 4;
+    /// The item count, or an item's rank, transition, queue or place, is outside its range.
+    pub const RECORD_RANGE: u8 = 5;
+    /// An item's unknown kind, or a map not among its kind's.
+    pub const RECORD_FORM: u8 = 6;
+    /// The transition is not from the rank's state, or is of another kind.
+    pub const TRANSITION: u8 = 7;
+    /// An evaluated cell, rank or queue is outside its range.
+    pub const EVALUATED: u8 = 8;
+    /// An assume gives 0.
+    pub const ASSUME: u8 = 9;
+    /// A pop of an empty queue.
+    pub const EMPTY_POP: u8 = 10;
+    /// A place or given value differs from the replay.
+    pub const DIFFERS: u8 = 11;
+    /// A barrier row is not kept.
+    pub const BARRIER: u8 = 12;
+    /// Requests or deliveries are left at the end.
+    pub const LEFT: u8 = 13;
+    /// The order list is shorter than the group count.
+    pub const ORDER_SHORT: u8 = 14;
+    /// The cell list, slip, counts or listing memory is too short.
+    pub const MEMORY_SHORT: u8 = 15;
+    /// A slip is not as document 01 says.
+    pub const SLIP: u8 = 16;
+}
+
+/// A refusal holds its number and its place, as the table of document 01 gives them.
+#[derive(Debug, Clone, Copy, PartialEq, Eq)]
+pub struct Refusal {
+    /// The number in the table, 1 to 16.
+    pub number: u8,
+    /// A byte, an item, an item count, or the entries or bytes needed.
+    pub place: usize,
+}
+
+/// What every part of the check returns: a result or a refusal.
+pub type Outcome<T> = Result<T, Refusal>;
+
+/// Makes the refusal with this number and place, as an early return.
+pub fn refuse<T>(number: u8, place: usize) -> Outcome<T> {
+    Err(Refusal { number, place })
+}

@@ -1,0 +1,65 @@
+//! The listing.
+
+use crate::check::{accept, Accepted};
+use crate::limits::{number, Refusal};
+use crate::order::Verdict;
+use std::fs;
+use std::path::Path;
+
+/// What the listing says: the bytes written, and the refusal if there is one.
+#[derive(Debug, Clone, Copy, PartialEq, Eq)]
+pub struct Listed {
+    /// How many of the lent bytes were filled.
+    pub written: usize,
+    /// The refusal; only 15 leaves the lent bytes untouched.
+    pub refusal: Option<Refusal>,
+}
+
+/// The lines of an accepted run.
+pub fn lines_of(accepted: &Accepted) -> String {
+    let word = match accepted.verdict {
+        Verdict::Order(_) => "order",
+        Verdict::Ring(_) => "ring",
+    };
+    let mut text = format!("{word} {}\n", accepted.verdict.groups().len());
+    for &number in accepted.verdict.groups() {
+        let group = &accepted.grouping.groups[number];
+        let (word, rank, first) = (group.kind.word(), group.rank, group.items[0]);
+        text.push_str(&format!("group {number} {word} {rank} {first}\n"));
+    }
+    for (index, rank) in accepted.run.last.ranks.iter().enumerate() {
+        for (cell, &value) in rank.cells.iter().enumerate() {
+            if value != 0 {
+                text.push_str(&format!("cell {} {cell} {value}\n", index + 1));
+            }
+        }
+    }
+    text
+}
+
+/// The whole text of the listing, and the refusal if the run is refused with 1 to 13.
+pub fn listing_text(program: &[u8], record: &[u8]) -> (String, Option<Refusal>) {
+    match accept(program, record) {
+        Ok(accepted) => (lines_of(&accepted), None),
+        Err(refusal) => {
+            (format!("refused {} {}\n", refusal.number, refusal.place), Some(refusal))
+        }
+    }
+}
+
+/// Writes the listing into lent memory; memory too short for all lines is 15 and stays untouched.
+pub fn write_listing(program: &[u8], record: &[u8], memory: &mut [u8]) -> Listed {
+    let (text, refusal) = listing_text(program, record);
+    let Some(lent) = memory.get_mut(..text.len()) else {
+        let short = Refusal { number: number::MEMORY_SHORT, place: text.len() };
+        return Listed { written: 0, refusal: Some(short) };
+    };
+    lent.copy_from_slice(text.as_bytes());
+    Listed { written: text.len(), refusal }
+}
+
+/// The listing program: the text for `run.prg` and `run.rec` of a directory.
+pub fn listing_of_directory(directory: &Path) -> String {
+    let bytes = |name: &str| fs::read(directory.join(name)).unwrap_or_default();
+    listing_text(&bytes("run.prg"), &bytes("run.rec")).0
+}

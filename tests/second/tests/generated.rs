@@ -1,0 +1,50 @@
+//! The generator: repeatable, and rich enough that every number comes often and at many places.
+
+use second::check::{check_bytes, Answer};
+use second::generator::input;
+use second::generator::slips::slip_input;
+use second::harness::{compare, Histogram};
+use second::slip::read_slip;
+
+#[test]
+fn the_generator_is_repeatable() {
+    for index in 0..200 {
+        assert_eq!(input(3, index), input(3, index));
+        assert_eq!(slip_input(3, index), slip_input(3, index));
+    }
+    assert_ne!(input(3, 0), input(4, 0));
+}
+
+#[test]
+fn every_refusal_number_is_seen_at_many_places() {
+    let mut histogram = Histogram::default();
+    for index in 0..20_000 {
+        match compare(&check_bytes, &input(5, index)) {
+            Ok(answer) => histogram.count(answer),
+            Err(disagreement) => panic!("seed 5, index {index}: {disagreement}"),
+        }
+        let slip = slip_input(5, index);
+        let mut counts = vec![0; slip.counts_entries];
+        histogram.count_slip(read_slip(slip.ranks, &slip.slip, &mut counts));
+    }
+    println!("{histogram}");
+    for number in 1..=16 {
+        let places = histogram.refused.get(&number).map_or(0, |places| places.len());
+        assert!(histogram.refusals(number) >= 50, "number {number} is too rare");
+        assert!(places >= 5, "number {number} comes at {places} places only");
+    }
+    assert!(histogram.orders >= 2_000 && histogram.rings >= 2_000);
+}
+
+#[test]
+fn order_and_ring_counts_stay_within_the_list() {
+    for index in 0..2_000 {
+        let input = input(6, index);
+        let mut order = vec![0; input.order_bytes];
+        let mut cells = vec![0; input.cell_bytes];
+        match check_bytes(&input.program, &input.record, &mut order, &mut cells) {
+            Answer::Order(count) | Answer::Ring(count) => assert!(count <= order.len() / 2),
+            Answer::Refused(refusal) => assert!((1..=15).contains(&refusal.number)),
+        }
+    }
+}
