@@ -1,0 +1,125 @@
+-- The programs and records of document 01's "Runs to check by", and more of the same kind, byte by byte: a header, then a transition or an item to a line.
+use Prim.Native.Nat.{ℕ}
+use mathlib.Core.List.{List, [], _∷_, _++_}
+use Rattle.model.specs.Listings.{join}
+
+-- "The neighbour program, N = 2: store rank into cell 0; write cell 0 to cell 1 of rank 3 − own rank on queue 0; bar; load cell 1."
+unfoldable pub neighbour : List ℕ
+unfolding join
+neighbour =
+    join
+    ((2 ∷ 2 ∷ 1 ∷ 1 ∷ 5 ∷ 4 ∷ []) ∷
+    (6 ∷ 2 ∷ 0 ∷ 1 ∷ 0 ∷ 0 ∷ 0 ∷ 2 ∷ []) ∷
+    (30 ∷ 6 ∷ 1 ∷ 2 ∷ 0 ∷ 0 ∷ 0 ∷ 0x11 ∷ 0 ∷ 0 ∷ 3 ∷ 2 ∷ 0 ∷ 0 ∷ 1 ∷ 0 ∷ 0 ∷ 0 ∷ []) ∷
+    (0 ∷ 9 ∷ 2 ∷ 3 ∷ []) ∷
+    (3 ∷ 1 ∷ 3 ∷ 4 ∷ 0 ∷ 0 ∷ 0 ∷ 1 ∷ []) ∷ [])
+
+-- A record of no items.
+unfoldable pub noItems : List ℕ
+noItems = 0 ∷ 0 ∷ []
+
+-- The first eight items of b and c: store 1, store 2, write 1, write 2, popa 1, popa 2, bar 1, bar 2.
+unfoldable pub exchange : List ℕ
+unfolding join
+exchange =
+    join
+    ((27 ∷ 2 ∷ 1 ∷ 0 ∷ 1 ∷ 0 ∷ 0 ∷ []) ∷
+    (27 ∷ 2 ∷ 2 ∷ 0 ∷ 2 ∷ 0 ∷ 0 ∷ []) ∷
+    (3 ∷ 6 ∷ 1 ∷ 1 ∷ []) ∷
+    (3 ∷ 6 ∷ 2 ∷ 1 ∷ []) ∷
+    (29 ∷ 7 ∷ 1 ∷ 0 ∷ 1 ∷ 0 ∷ 0 ∷ []) ∷
+    (29 ∷ 7 ∷ 2 ∷ 0 ∷ 2 ∷ 0 ∷ 0 ∷ []) ∷
+    (3 ∷ 9 ∷ 1 ∷ 2 ∷ []) ∷
+    (3 ∷ 9 ∷ 2 ∷ 2 ∷ []) ∷ [])
+
+-- load 1 (value v), popb 1, popb 2.
+unfoldable pub loadOf : ℕ → List ℕ
+loadOf v = 59 ∷ 1 ∷ 1 ∷ 3 ∷ 1 ∷ 0 ∷ 1 ∷ 0 ∷ v ∷ []
+
+unfoldable pub deliveries : List ℕ
+unfolding join
+deliveries = join ((29 ∷ 8 ∷ 1 ∷ 0 ∷ 2 ∷ 0 ∷ 1 ∷ []) ∷ (29 ∷ 8 ∷ 2 ∷ 0 ∷ 1 ∷ 0 ∷ 1 ∷ []) ∷ [])
+
+-- b: ".. load 1 (value 0), popb 1, popb 2"; c: "as b with the load last (value 2)".
+unfoldable pub lateDelivery : List ℕ
+unfolding exchange loadOf deliveries
+lateDelivery = 0 ∷ 11 ∷ (exchange ++ (loadOf 0 ++ deliveries))
+
+unfoldable pub deliveryFirst : List ℕ
+unfolding exchange loadOf deliveries
+deliveryFirst = 0 ∷ 11 ∷ (exchange ++ (deliveries ++ loadOf 2))
+
+-- N = 1: one transition from state 0 to state 1, in a machine of so many cells.
+unfoldable pub alone : (cells : ℕ) → (transition : List ℕ) → List ℕ
+alone cells transition = 1 ∷ cells ∷ 1 ∷ 1 ∷ 2 ∷ 1 ∷ transition
+
+-- d: a write of cell 0 to cell 0 of the own rank.
+unfoldable pub selfCopy : List ℕ
+unfolding alone
+selfCopy = alone 1 (30 ∷ 6 ∷ 0 ∷ 1 ∷ 0 ∷ 0 ∷ 0 ∷ 2 ∷ 0 ∷ 0 ∷ 0 ∷ 0 ∷ 0 ∷ 0 ∷ [])
+
+-- Its write, popa and popb.
+unfoldable pub writeItem : List ℕ
+writeItem = 3 ∷ 6 ∷ 1 ∷ 0 ∷ []
+
+unfoldable pub popItem : (kind cell : ℕ) → List ℕ
+popItem kind cell = 29 ∷ kind ∷ 1 ∷ 0 ∷ 1 ∷ 0 ∷ cell ∷ []
+
+-- e: "N = 1: write from cell 0 to 1, store to cell 0" (the value 5).
+unfoldable pub copyThenStore : List ℕ
+unfolding join
+copyThenStore =
+    join
+    ((1 ∷ 2 ∷ 1 ∷ 1 ∷ 3 ∷ 2 ∷ []) ∷
+    (30 ∷ 6 ∷ 0 ∷ 1 ∷ 0 ∷ 0 ∷ 0 ∷ 2 ∷ 0 ∷ 0 ∷ 1 ∷ 0 ∷ 0 ∷ 0 ∷ []) ∷
+    (6 ∷ 2 ∷ 1 ∷ 2 ∷ 0 ∷ 0 ∷ 0 ∷ 0 ∷ 0 ∷ 5 ∷ []) ∷ [])
+
+unfoldable pub storeItem : (transition cell : ℕ) → List ℕ
+storeItem transition cell = 27 ∷ 2 ∷ 1 ∷ transition ∷ 1 ∷ 0 ∷ cell ∷ []
+
+-- i: assume of a constant.
+unfoldable pub assumeOf : ℕ → List ℕ
+unfolding alone
+assumeOf n = alone 1 (2 ∷ 4 ∷ 0 ∷ 1 ∷ 0 ∷ 0 ∷ n ∷ [])
+
+-- k: A = 64, a store of 1 to a cell.
+unfoldable pub storeTo : (cell : ℕ) → List ℕ
+unfolding alone
+storeTo cell = alone 64 (6 ∷ 2 ∷ 0 ∷ 1 ∷ 0 ∷ 0 ∷ cell ∷ 0 ∷ 0 ∷ 1 ∷ [])
+
+-- l: a store of an expression to cell 0, with its value in the item.
+unfoldable pub storeOf : (expression : List ℕ) → List ℕ
+unfolding alone
+storeOf e = alone 1 (6 ∷ 2 ∷ 0 ∷ 1 ∷ 0 ∷ 0 ∷ 0 ∷ e)
+
+unfoldable pub valueItem : (high low : ℕ) → List ℕ
+valueItem high low = 0 ∷ 1 ∷ 59 ∷ 2 ∷ 1 ∷ 0 ∷ 1 ∷ 0 ∷ 0 ∷ high ∷ low ∷ []
+
+-- A sum of ones: so many sums, then a one more; the last one is `last`.
+unfoldable pub sums : (count : ℕ) → (last : List ℕ) → List ℕ
+sums ℕ.zero last = last
+sums (ℕ.suc count) last = 0x10 ∷ 2 ∷ sums count last
+
+-- Two transfers of one rank and queue with a store between them: write cell 0 to 1, store to cell 2, write cell 1 to 3. The second fetches cell 1 before the
+-- first delivers there.
+unfoldable pub twoTransfers : List ℕ
+unfolding join
+twoTransfers =
+    join
+    ((1 ∷ 4 ∷ 1 ∷ 1 ∷ 4 ∷ 3 ∷ []) ∷
+    (30 ∷ 6 ∷ 0 ∷ 1 ∷ 0 ∷ 0 ∷ 0 ∷ 2 ∷ 0 ∷ 0 ∷ 1 ∷ 0 ∷ 0 ∷ 0 ∷ []) ∷
+    (6 ∷ 2 ∷ 1 ∷ 2 ∷ 0 ∷ 0 ∷ 2 ∷ 0 ∷ 0 ∷ 1 ∷ []) ∷
+    (30 ∷ 6 ∷ 2 ∷ 3 ∷ 0 ∷ 0 ∷ 1 ∷ 2 ∷ 0 ∷ 0 ∷ 3 ∷ 0 ∷ 0 ∷ 0 ∷ []) ∷ [])
+
+unfoldable pub overtaking : List ℕ
+unfolding join popItem storeItem
+overtaking =
+    0 ∷ 7 ∷
+    join
+    ((3 ∷ 6 ∷ 1 ∷ 0 ∷ []) ∷
+    storeItem 1 2 ∷
+    (3 ∷ 6 ∷ 1 ∷ 2 ∷ []) ∷
+    popItem 7 0 ∷
+    popItem 7 1 ∷
+    popItem 8 1 ∷
+    popItem 8 3 ∷ [])

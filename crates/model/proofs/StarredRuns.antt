@@ -1,0 +1,264 @@
+-- The starred runs of document 01, and a run for each refusal and each of its "Mistakes that look sound", as one table. Expected answers were worked
+-- out by hand from the paper. One theorem says that the definitions give each of them.
+use Prim.Native.Nat.{ℕ, _+_, _-_, _*_}
+use mathlib.Core.Path.{_≡_, refl}
+use mathlib.Core.List.{List, [], _∷_, _++_, map}
+use lib.ListN.{length, replicate}
+use Rattle.model.specs.declared.Answer.{Answer}
+use Rattle.model.specs.declared.Answer.the-variants.{Order, Ring, Refused}
+use Rattle.model.specs.declared.Filled.{Filled}
+use Rattle.model.specs.declared.Filled.the-variants.{Entries}
+use Rattle.model.specs.declared.Refusal.{Refusal}
+use Rattle.model.specs.Checks.{Outcome, check}
+use Rattle.model.specs.Slips.{Lent, writeSlip, readSlip}
+use Rattle.model.specs.Listings.{Listing, listing, join}
+use Rattle.model.proofs.Samples.{neighbour, noItems, exchange, loadOf, deliveries, lateDelivery, deliveryFirst, alone, selfCopy, writeItem, popItem, copyThenStore, storeItem, assumeOf, storeTo, storeOf, valueItem, sums, twoTransfers, overtaking}
+
+-- What is asked: the whole check with what both lists hold, a listing or a slip with what the memory holds, a slip read with N and what the counts hold.
+pub data Question : Type 0 where
+  checks : (program recorded order cells : List ℕ) → Question
+  lists : (program recorded memory : List ℕ) → Question
+  writes : (program recorded memory : List ℕ) → Question
+  reads : (ranks : ℕ) (slip counts : List ℕ) → Question
+
+pub data Reply : Type 0 where
+  checked : Outcome → Reply
+  printed : Listing → Reply
+  lent : Lent → Reply
+
+-- What the definitions say.
+pub reply : Question → Reply
+unfolding check listing writeSlip readSlip
+reply (checks program recorded order cells) = checked (check program recorded order cells)
+reply (lists program recorded memory) = printed (listing program recorded memory)
+reply (writes program recorded memory) = lent (writeSlip program recorded memory)
+reply (reads ranks slip counts) = lent (readSlip ranks slip counts)
+
+pub record Row : Type 0 where
+  pub question : Question
+  pub expected : Reply
+
+-- So many entries of memory, each of which holds 9.
+nines : ℕ → List ℕ
+nines n = replicate n 9
+
+refusal : (number place : ℕ) → Refusal
+refusal number place = record { number = number; place = place }
+
+-- An order of these groups with these last cells, each list longer by one entry, which stays.
+orderRow : (program recorded groups cells : List ℕ) → Row
+unfolding nines
+orderRow program recorded groups cells =
+    record {
+      question = checks program recorded (nines (length groups + 1)) (nines (length cells + 1));
+      expected =
+          checked
+          (record { answer = Order (length groups); order = groups ++ 9 ∷ []; cells = cells ++ 9 ∷ [] });
+    }
+
+-- A ring of some of so many groups; the order list is as long as the group count, and what the ring leaves of it stays.
+ringRow : (program recorded : List ℕ) → (groups : ℕ) → (ring cells : List ℕ) → Row
+unfolding nines
+ringRow program recorded groups ring cells =
+    record {
+      question = checks program recorded (nines groups) (nines (length cells));
+      expected =
+          checked
+          (record { answer = Ring (length ring); order = ring ++ nines (groups - length ring); cells = cells });
+    }
+
+-- A refusal with lists of these lengths, which hold what they held.
+refusedWith : (orderLength cellsLength : ℕ) → (program recorded : List ℕ) → (number place : ℕ) → Row
+unfolding nines refusal
+refusedWith orderLength cellsLength program recorded number place =
+    record {
+      question = checks program recorded (nines orderLength) (nines cellsLength);
+      expected =
+          checked
+          (record { answer = Refused (refusal number place); order = nines orderLength; cells = nines cellsLength });
+    }
+
+refusedRow : (program recorded : List ℕ) → (number place : ℕ) → Row
+unfolding refusedWith
+refusedRow = refusedWith 8 64
+
+-- A listing of these bytes, in memory longer by one byte, which stays.
+listingRow : (program recorded : List ℕ) → Answer → (text : List ℕ) → Row
+unfolding nines
+listingRow program recorded answer text =
+    record {
+      question = lists program recorded (nines (length text + 1));
+      expected =
+          printed (record { result = record { answer = answer; length = length text }; memory = text ++ 9 ∷ [] });
+    }
+
+-- A listing that does not fit.
+noListingRow : (program recorded : List ℕ) → (memory needed : ℕ) → Row
+unfolding nines refusal
+noListingRow program recorded memory needed =
+    record {
+      question = lists program recorded (nines memory);
+      expected =
+          printed (record { result = record { answer = Refused (refusal 15 needed); length = 0 }; memory = nines memory });
+    }
+
+-- A slip written, or counts read: entries that fill the memory, longer by one.
+filled : Question → (entries : List ℕ) → Row
+filled question entries =
+    record { question = question; expected = lent (record { answer = Entries (length entries); memory = entries ++ 9 ∷ [] }) }
+
+notFilled : Question → (memory number place : ℕ) → Row
+unfolding nines refusal
+notFilled question memory number place =
+    record { question = question; expected = lent (record { answer = Filled.Refused (refusal number place); memory = nines memory }) }
+
+-- `order 0` and a line feed.
+order0 : List ℕ
+order0 = 111 ∷ 114 ∷ 100 ∷ 101 ∷ 114 ∷ 32 ∷ 48 ∷ 10 ∷ []
+
+-- The eight lines that document 01 prints under b.
+lateListing : List ℕ
+unfolding join
+lateListing =
+    join
+    ((114 ∷ 105 ∷ 110 ∷ 103 ∷ 32 ∷ 51 ∷ 10 ∷ []) ∷
+    (103 ∷ 114 ∷ 111 ∷ 117 ∷ 112 ∷ 32 ∷ 51 ∷ 32 ∷ 119 ∷ 114 ∷ 105 ∷ 116 ∷ 101 ∷ 32 ∷ 50 ∷ 32 ∷ 51 ∷ 10 ∷ []) ∷
+    (103 ∷ 114 ∷ 111 ∷ 117 ∷ 112 ∷ 32 ∷ 52 ∷ 32 ∷ 98 ∷ 97 ∷ 114 ∷ 32 ∷ 48 ∷ 32 ∷ 54 ∷ 10 ∷ []) ∷
+    (103 ∷ 114 ∷ 111 ∷ 117 ∷ 112 ∷ 32 ∷ 53 ∷ 32 ∷ 108 ∷ 111 ∷ 97 ∷ 100 ∷ 32 ∷ 49 ∷ 32 ∷ 56 ∷ 10 ∷ []) ∷
+    (99 ∷ 101 ∷ 108 ∷ 108 ∷ 32 ∷ 49 ∷ 32 ∷ 48 ∷ 32 ∷ 49 ∷ 10 ∷ []) ∷
+    (99 ∷ 101 ∷ 108 ∷ 108 ∷ 32 ∷ 49 ∷ 32 ∷ 49 ∷ 32 ∷ 50 ∷ 10 ∷ []) ∷
+    (99 ∷ 101 ∷ 108 ∷ 108 ∷ 32 ∷ 50 ∷ 32 ∷ 48 ∷ 32 ∷ 50 ∷ 10 ∷ []) ∷
+    (99 ∷ 101 ∷ 108 ∷ 108 ∷ 32 ∷ 50 ∷ 32 ∷ 49 ∷ 32 ∷ 49 ∷ 10 ∷ []) ∷ [])
+
+-- `refused 1 0` and a line feed.
+refusedLine10 : List ℕ
+refusedLine10 = 114 ∷ 101 ∷ 102 ∷ 117 ∷ 115 ∷ 101 ∷ 100 ∷ 32 ∷ 49 ∷ 32 ∷ 48 ∷ 10 ∷ []
+
+-- a to l, as document 01 words them.
+starred : List Row
+unfolding
+    neighbour noItems lateDelivery deliveryFirst selfCopy writeItem popItem copyThenStore storeItem assumeOf storeTo storeOf valueItem
+    orderRow ringRow refusedRow listingRow order0 lateListing
+starred =
+    -- a* no items: an order of no groups (prints `order 0`)
+    orderRow neighbour noItems [] (0 ∷ 0 ∷ 0 ∷ 0 ∷ []) ∷
+    listingRow neighbour noItems (Order 0) order0 ∷
+    -- b* the load before the deliveries: the ring 3 4 5
+    ringRow neighbour lateDelivery 6 (3 ∷ 4 ∷ 5 ∷ []) (1 ∷ 2 ∷ 2 ∷ 1 ∷ []) ∷
+    listingRow neighbour lateDelivery (Ring 3) lateListing ∷
+    -- c* as b with the load last (value 2): order 0 1 2 3 4 5
+    orderRow neighbour deliveryFirst (0 ∷ 1 ∷ 2 ∷ 3 ∷ 4 ∷ 5 ∷ []) (1 ∷ 2 ∷ 2 ∷ 1 ∷ []) ∷
+    -- d* N = 1, a cell copied onto itself: order 0
+    orderRow selfCopy (0 ∷ 3 ∷ (writeItem ++ (popItem 7 0 ++ popItem 8 0))) (0 ∷ []) (0 ∷ []) ∷
+    -- e* N = 1: write from cell 0 to 1, store to cell 0, popa, popb: ring 0 1
+    ringRow copyThenStore (0 ∷ 4 ∷ (writeItem ++ (storeItem 1 0 ++ (popItem 7 0 ++ popItem 8 1)))) 2 (0 ∷ 1 ∷ []) (5 ∷ 5 ∷ []) ∷
+    -- f* a write alone: 13 at 1
+    refusedRow selfCopy (0 ∷ 1 ∷ writeItem) 13 1 ∷
+    -- g* popa first: 10 at 0
+    refusedRow selfCopy (0 ∷ 1 ∷ popItem 7 0) 10 0 ∷
+    -- h* write, popb: 10 at 1
+    refusedRow selfCopy (0 ∷ 2 ∷ (writeItem ++ popItem 8 0)) 10 1 ∷
+    -- i* assume of 0: 9 at 0
+    refusedRow (assumeOf 0) (0 ∷ 1 ∷ 3 ∷ 4 ∷ 1 ∷ 0 ∷ []) 9 0 ∷
+    -- j* bar of rank 2 first: 12 at 0
+    refusedRow neighbour (0 ∷ 1 ∷ 3 ∷ 9 ∷ 2 ∷ 2 ∷ []) 12 0 ∷
+    -- k* A = 64: store to cell 63 accepted; to cell 64, the item naming cell 63, gives 8
+    orderRow (storeTo 63) (0 ∷ 1 ∷ storeItem 0 63) (0 ∷ []) (replicate 63 0 ++ 1 ∷ []) ∷
+    refusedRow (storeTo 64) (0 ∷ 1 ∷ storeItem 0 63) 8 0 ∷
+    -- l* 65,535 + 1 gives 0; 0 − 1 gives 65,535
+    orderRow (storeOf (0x10 ∷ 0 ∷ 255 ∷ 255 ∷ 0 ∷ 0 ∷ 1 ∷ [])) (valueItem 0 0) (0 ∷ []) (0 ∷ []) ∷
+    orderRow (storeOf (0x11 ∷ 0 ∷ 0 ∷ 0 ∷ 0 ∷ 0 ∷ 1 ∷ [])) (valueItem 255 255) (0 ∷ []) (65_535 ∷ []) ∷ []
+
+-- Each refusal, at places that tell neighbouring readings apart.
+refusals : List Row
+unfolding
+    neighbour noItems lateDelivery selfCopy writeItem popItem assumeOf storeOf valueItem sums storeItem alone exchange loadOf deliveries
+    refusedRow refusedWith listingRow noListingRow refusedLine10 filled notFilled nines refusal orderRow
+refusals =
+    -- 1: no byte at all; a transition cut off in its last expression; a byte left over
+    refusedRow [] [] 1 0 ∷
+    refusedRow (1 ∷ 1 ∷ 1 ∷ 1 ∷ 2 ∷ 1 ∷ 2 ∷ 4 ∷ 0 ∷ 1 ∷ 0 ∷ 0 ∷ []) noItems 1 12 ∷
+    refusedRow (1 ∷ 1 ∷ 1 ∷ 1 ∷ 1 ∷ 0 ∷ 7 ∷ 7 ∷ []) noItems 1 6 ∷
+    -- 2: a header number before what is missing after it; a from state; a register of a load; one in an expression
+    refusedRow (0 ∷ []) [] 2 0 ∷
+    refusedRow (9 ∷ 1 ∷ []) [] 2 0 ∷
+    refusedRow (1 ∷ 65 ∷ []) [] 2 1 ∷
+    refusedRow (1 ∷ 1 ∷ 1 ∷ 1 ∷ 1 ∷ 129 ∷ []) [] 2 5 ∷
+    refusedRow (alone 1 (0 ∷ 9 ∷ 2 ∷ 0 ∷ [])) noItems 2 8 ∷
+    refusedRow (alone 1 (0 ∷ 9 ∷ 0 ∷ 2 ∷ [])) noItems 2 9 ∷
+    refusedRow (alone 1 (3 ∷ 1 ∷ 0 ∷ 1 ∷ 1 ∷ 2 ∷ [])) noItems 2 10 ∷
+    refusedRow (storeOf (1 ∷ 1 ∷ [])) noItems 2 14 ∷
+    -- 3: an unknown kind before its map; a map that is not its kind's; an unknown token; the sixteenth token, and none where it is missing
+    refusedRow (alone 1 (1 ∷ 7 ∷ 9 ∷ [])) noItems 3 7 ∷
+    refusedRow (alone 1 (1 ∷ 9 ∷ 9 ∷ [])) noItems 3 6 ∷
+    refusedRow (storeOf (4 ∷ [])) noItems 3 13 ∷
+    orderRow (storeOf (sums 7 (2 ∷ []))) (valueItem 0 8) (0 ∷ []) (8 ∷ []) ∷
+    refusedRow (storeOf (sums 7 (0x10 ∷ 2 ∷ 2 ∷ []))) noItems 3 28 ∷
+    refusedRow (storeOf (sums 7 (0x10 ∷ []))) noItems 1 28 ∷
+    -- 4: no count; an item cut off in its place; a byte left over
+    refusedRow neighbour (0 ∷ []) 4 1 ∷
+    refusedRow neighbour (0 ∷ 1 ∷ 27 ∷ 2 ∷ 1 ∷ 0 ∷ 1 ∷ 0 ∷ []) 4 8 ∷
+    refusedRow neighbour (0 ∷ 0 ∷ 0 ∷ []) 4 2 ∷
+    -- 5: 1,025 items before the missing ones; a rank, a transition, a queue, a place rank before its cell is read, a place cell
+    refusedRow neighbour (4 ∷ 1 ∷ []) 5 0 ∷
+    refusedRow neighbour (0 ∷ 1 ∷ 3 ∷ 6 ∷ 3 ∷ 1 ∷ []) 5 4 ∷
+    refusedRow neighbour (0 ∷ 1 ∷ 3 ∷ 6 ∷ 1 ∷ 4 ∷ []) 5 5 ∷
+    refusedRow neighbour (0 ∷ 1 ∷ 29 ∷ 7 ∷ 1 ∷ 1 ∷ []) 5 5 ∷
+    refusedRow neighbour (0 ∷ 1 ∷ 27 ∷ 2 ∷ 1 ∷ 0 ∷ 0 ∷ []) 5 6 ∷
+    refusedRow neighbour (0 ∷ 1 ∷ 27 ∷ 2 ∷ 1 ∷ 0 ∷ 1 ∷ 0 ∷ 2 ∷ []) 5 7 ∷
+    -- 6: an unknown kind before its map; a map that is not among its kind's
+    refusedRow neighbour (0 ∷ 1 ∷ 99 ∷ 10 ∷ []) 6 3 ∷
+    refusedRow neighbour (0 ∷ 1 ∷ 27 ∷ 6 ∷ []) 6 2 ∷
+    -- 7: not from the rank's state; of another kind
+    refusedRow neighbour (0 ∷ 1 ∷ 3 ∷ 6 ∷ 1 ∷ 1 ∷ []) 7 0 ∷
+    refusedRow neighbour (0 ∷ 1 ∷ 3 ∷ 3 ∷ 1 ∷ 0 ∷ []) 7 0 ∷
+    -- 11: another place, or another value than the replay's; 10 comes before it
+    refusedRow neighbour (0 ∷ 1 ∷ 27 ∷ 2 ∷ 1 ∷ 0 ∷ 2 ∷ 0 ∷ 0 ∷ []) 11 0 ∷
+    refusedRow (storeOf (0 ∷ 0 ∷ 3 ∷ [])) (valueItem 0 4) 11 0 ∷
+    refusedRow selfCopy (0 ∷ 1 ∷ 61 ∷ 7 ∷ 1 ∷ 0 ∷ 1 ∷ 0 ∷ 0 ∷ 0 ∷ 1 ∷ []) 10 0 ∷
+    -- 12: another item in an open row, before its 10; an open row at the end
+    refusedRow neighbour (0 ∷ 4 ∷ (storeItem 0 0 ++ (3 ∷ 6 ∷ 1 ∷ 1 ∷ 3 ∷ 9 ∷ 1 ∷ 2 ∷ popItem 8 1))) 12 3 ∷
+    refusedRow neighbour (0 ∷ 3 ∷ (storeItem 0 0 ++ (3 ∷ 6 ∷ 1 ∷ 1 ∷ 3 ∷ 9 ∷ 1 ∷ 2 ∷ []))) 12 3 ∷
+    -- 13: a request is left, or a delivery
+    refusedRow selfCopy (0 ∷ 2 ∷ (writeItem ++ popItem 7 0)) 13 2 ∷
+    -- 14 for a ring too, and before 15; 15 with all cells, also for no items
+    refusedWith 5 4 neighbour lateDelivery 14 6 ∷
+    refusedWith 5 3 neighbour lateDelivery 14 6 ∷
+    refusedWith 6 3 neighbour lateDelivery 15 4 ∷
+    refusedWith 0 3 neighbour noItems 15 4 ∷
+    -- the listing of a refused input is its `refused` line; 15 with the length of what does not fit
+    listingRow [] [] (Refused (refusal 1 0)) refusedLine10 ∷
+    noListingRow [] [] 11 12 ∷
+    noListingRow neighbour noItems 7 8 ∷
+    noListingRow neighbour lateDelivery 101 102 ∷
+    -- the slip: ranks 1 and 2 have 4 and 3 command items; a run without command items has an empty map; refused input; 15
+    filled (writes neighbour lateDelivery (nines 6)) (3 ∷ 0 ∷ 4 ∷ 0 ∷ 3 ∷ []) ∷
+    filled (writes neighbour noItems (nines 2)) (0 ∷ []) ∷
+    notFilled (writes neighbour (0 ∷ []) (nines 0)) 0 4 1 ∷
+    notFilled (writes neighbour lateDelivery (nines 4)) 4 15 5 ∷
+    -- the slip read: 0 for a rank without a bit; 16, then 15
+    filled (reads 3 (5 ∷ 0 ∷ 4 ∷ 4 ∷ 0 ∷ []) (nines 4)) (4 ∷ 0 ∷ 1_024 ∷ []) ∷
+    notFilled (reads 0 (0 ∷ []) (nines 1)) 1 16 0 ∷
+    notFilled (reads 9 (0 ∷ []) (nines 9)) 9 16 0 ∷
+    notFilled (reads 2 [] (nines 2)) 2 16 0 ∷
+    notFilled (reads 2 (4 ∷ 0 ∷ 1 ∷ []) (nines 2)) 2 16 0 ∷
+    notFilled (reads 2 (1 ∷ 0 ∷ 0 ∷ []) (nines 2)) 2 16 1 ∷
+    notFilled (reads 2 (3 ∷ 0 ∷ 1 ∷ 4 ∷ 1 ∷ []) (nines 2)) 2 16 3 ∷
+    notFilled (reads 2 (1 ∷ 0 ∷ []) (nines 2)) 2 16 2 ∷
+    notFilled (reads 2 (1 ∷ 0 ∷ 1 ∷ 0 ∷ []) (nines 1)) 1 16 3 ∷
+    notFilled (reads 2 (1 ∷ 0 ∷ 1 ∷ []) (nines 1)) 1 15 2 ∷ []
+
+-- The mistakes that look sound. Fetching at issue: e, where cell 1 would end as 0. No arrow from a read to the next write: b. A barrier that
+-- empties queues: b. Queue order as an arrow: here, where the ring would leave out the store.
+mistakes : List Row
+unfolding twoTransfers overtaking ringRow
+mistakes = ringRow twoTransfers overtaking 3 (0 ∷ 1 ∷ 2 ∷ []) (0 ∷ 0 ∷ 1 ∷ 0 ∷ []) ∷ []
+
+pub rows : List Row
+unfolding starred refusals mistakes
+rows = starred ++ (refusals ++ mistakes)
+
+-- The definitions give every row's answer.
+pub every-row : map (λ row. reply (row .question)) rows ≡ map (λ row. row .expected) rows
+unfolding reply rows
+every-row = refl
