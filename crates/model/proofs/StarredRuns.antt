@@ -9,14 +9,16 @@ use Rattle.model.specs.declared.Answer.the-variants.{Order, Ring, Refuse
 use Rattle.model.specs.declared.Filled.{Filled}
 use Rattle.model.specs.declared.Filled.the-variants.{Entries}
 use Rattle.model.specs.declared.Refusal.{Refusal}
-use Rattle.model.specs.Checks.{Outcome, check}
+use Rattle.model.specs.Checks.{Outcome, check, checkBytes}
 use Rattle.model.specs.Slips.{Lent, writeSlip, readSlip}
 use Rattle.model.specs.Listings.{Listing, listing, join}
 use Rattle.model.proofs.Samples.{neighbour, noItems, exchange, loadOf, deliveries, lateDelivery, deliveryFirst, alone, selfCopy, writeItem, popItem, copyThenStore, storeItem, assumeOf, storeTo, storeOf, valueItem, sums, twoTransfers, overtaking}
 
--- What is asked: the whole check with what both lists hold, a listing or a slip with what the memory holds, a slip read with N and what the counts hold.
+-- What is asked: the whole check with what both lists hold, the same on bytes, a listing or a slip with what the memory holds, a slip read with N and
+-- what the counts hold.
 pub data Question : Type 0 where
   checks : (program recorded order cells : List ℕ) → Question
+  enters : (program recorded order cells : List ℕ) → Question
   lists : (program recorded memory : List ℕ) → Question
   writes : (program recorded memory : List ℕ) → Question
   reads : (ranks : ℕ) (slip counts : List ℕ) → Question
@@ -28,8 +30,9 @@ pub data Reply : Type 0 where
 
 -- What the definitions say.
 pub reply : Question → Reply
-unfolding check listing writeSlip readSlip
+unfolding check checkBytes listing writeSlip readSlip
 reply (checks program recorded order cells) = checked (check program recorded order cells)
+reply (enters program recorded order cells) = checked (checkBytes program recorded order cells)
 reply (lists program recorded memory) = printed (listing program recorded memory)
 reply (writes program recorded memory) = lent (writeSlip program recorded memory)
 reply (reads ranks slip counts) = lent (readSlip ranks slip counts)
@@ -65,6 +68,15 @@ ringRow program recorded groups ring cells =
       expected =
           checked
           (record { answer = Ring (length ring); order = ring ++ nines (groups - length ring); cells = cells });
+    }
+
+-- The recorder's entry on lists of so many bytes.
+entryRow : (program recorded : List ℕ) → (orderLength cellsLength : ℕ) → Answer → (order cells : List ℕ) → Row
+unfolding nines
+entryRow program recorded orderLength cellsLength answer order cells =
+    record {
+      question = enters program recorded (nines orderLength) (nines cellsLength);
+      expected = checked (record { answer = answer; order = order; cells = cells });
     }
 
 -- A refusal with lists of these lengths, which hold what they held.
@@ -173,7 +185,7 @@ starred =
 refusals : List Row
 unfolding
     neighbour noItems lateDelivery selfCopy writeItem popItem assumeOf storeOf valueItem sums storeItem alone exchange loadOf deliveries
-    refusedRow refusedWith listingRow noListingRow refusedLine10 filled notFilled nines refusal orderRow
+    refusedRow refusedWith listingRow noListingRow refusedLine10 filled notFilled nines refusal orderRow entryRow
 refusals =
     -- 1: no byte at all; a transition cut off in its last expression; a byte left over
     refusedRow [] [] 1 0 ∷
@@ -226,6 +238,10 @@ refusals =
     refusedWith 5 3 neighbour lateDelivery 14 6 ∷
     refusedWith 6 3 neighbour lateDelivery 15 4 ∷
     refusedWith 0 3 neighbour noItems 15 4 ∷
+    -- the recorder's entry: big-endian, two bytes an entry; the order's odd last byte is never used, nor is a fourth cell's half
+    entryRow neighbour lateDelivery 13 8 (Ring 3) (0 ∷ 3 ∷ 0 ∷ 4 ∷ 0 ∷ 5 ∷ nines 7) (0 ∷ 1 ∷ 0 ∷ 2 ∷ 0 ∷ 2 ∷ 0 ∷ 1 ∷ []) ∷
+    entryRow neighbour lateDelivery 12 7 (Refused (refusal 15 4)) (nines 12) (nines 7) ∷
+    entryRow neighbour lateDelivery 11 7 (Refused (refusal 14 6)) (nines 11) (nines 7) ∷
     -- the listing of a refused input is its `refused` line; 15 with the length of what does not fit
     listingRow [] [] (Refused (refusal 1 0)) refusedLine10 ∷
     noListingRow [] [] 11 12 ∷

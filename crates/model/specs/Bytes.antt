@@ -1,6 +1,6 @@
 -- Reading bytes (document 01, the paragraph after the table): a reader starts at a place of the bytes and finds a value and the place after it,
 -- or refuses. "A field is judged as soon as its bytes are read, and a fault is placed at that field's first byte."
-use Prim.Native.Nat.{ℕ, zero, suc, _+_, _*_}
+use Prim.Native.Nat.{ℕ, zero, suc, _+_, _*_, _/_, _%_}
 use mathlib.Core.Bool.{Bool, true, false}
 use mathlib.Core.List.{List, [], _∷_}
 use lib.Dec.{ltb, eqb}
@@ -50,6 +50,10 @@ word early = do
   high ← byte early
   low ← byte early
   pure (high * 256 + low)
+
+-- The same, written.
+abbrev pub wordBytes : ℕ → List ℕ
+wordBytes n = n / 256 ∷ n % 256 ∷ []
 
 -- A field that has to pass a test; its fault is placed at its first byte.
 unfoldable pub judged : (ℕ → Bool) → (number : ℕ) → Reader ℕ → Reader ℕ

@@ -1,5 +1,5 @@
 -- The answer (document 01, from "An answer is an order, a ring or a refusal"): the whole check on byte lists and lent lists.
-use Prim.Native.Nat.{ℕ, _+_, _*_}
+use Prim.Native.Nat.{ℕ, _*_, _/_}
 use mathlib.Core.Bool.{Bool, true, false}
 use mathlib.Core.List.{List, [], _∷_, _++_, map}
 use lib.Dec.{leb, eqb}
@@ -9,6 +9,7 @@ use Rattle.model.specs.declared.Answer.the-variants.{Order, Ring, Refuse
 use Rattle.model.specs.declared.Item.{Item}
 use Rattle.model.specs.Refusals.{Result, ok, refused, require, _>>=_, orderTooShort, memoryTooShort}
 use Rattle.model.specs.Choice.{when, numbersFrom}
+use Rattle.model.specs.Bytes.{wordBytes}
 use Rattle.model.specs.Programs.{Program, readProgram}
 use Rattle.model.specs.Records.{readRecord}
 use Rattle.model.specs.Machine.{Start, zeroStart, State}
@@ -84,9 +85,9 @@ pub record Verdicts : Type 0 where
   pub verdict : Verdict
   pub cells : List ℕ
 
-unfoldable pub judged : Start → (program recorded : List ℕ) → (orderLength cellsLength : ℕ) → Result Verdicts
+unfoldable pub checkResult : Start → (program recorded : List ℕ) → (orderLength cellsLength : ℕ) → Result Verdicts
 unfolding accept verdictOn lastCells
-judged start program recorded orderLength cellsLength = do
+checkResult start program recorded orderLength cellsLength = do
   a ← accept start program recorded
   let groups : ℕ = a .run .last .opened
   let count : ℕ = a .program .header .ranks * a .program .header .cells
@@ -103,5 +104,25 @@ outcome order cells (ok v) =
 
 -- The whole check, from document 01's start; `order` and `cells` are what the lent lists hold.
 unfoldable pub check : (program recorded order cells : List ℕ) → Outcome
-unfolding zeroStart judged outcome
-check program recorded order cells = outcome order cells (judged zeroStart program recorded (length order) (length cells))
+unfolding zeroStart checkResult outcome
+check program recorded order cells = outcome order cells (checkResult zeroStart program recorded (length order) (length cells))
+
+-- The recorder's entry: "both lists there are bytes, two an entry, and an odd last byte is never used."
+unfoldable pub entryBytes : List ℕ → List ℕ
+entryBytes [] = []
+entryBytes (n ∷ entries) = wordBytes n ++ entryBytes entries
+
+unfoldable pub outcomeBytes : (order cells : List ℕ) → Result Verdicts → Outcome
+unfolding fill entryBytes
+outcomeBytes order cells (refused r) = record { answer = Refused r; order = order; cells = cells }
+outcomeBytes order cells (ok v) =
+    record {
+      answer = answered (v .verdict);
+      order = fill (entryBytes (listed (v .verdict))) order;
+      cells = fill (entryBytes (v .cells)) cells;
+    }
+
+unfoldable pub checkBytes : (program recorded order cells : List ℕ) → Outcome
+unfolding zeroStart checkResult outcomeBytes
+checkBytes program recorded order cells =
+    outcomeBytes order cells (checkResult zeroStart program recorded (length order / 2) (length cells / 2))

@@ -10,7 +10,7 @@ use Rattle.model.specs.Limits.{maxRanks, maxItems}
 use Rattle.model.specs.Refusals as Refusals
 use Rattle.model.specs.Refusals.{Result, ok, refused, require, memoryTooShort, slipForm}
 use Rattle.model.specs.Choice.{when, between, bit, numbersFrom}
-use Rattle.model.specs.Bytes.{Reader, _>>=_, pure, byte, word, judged, optional, whole}
+use Rattle.model.specs.Bytes.{Reader, _>>=_, pure, byte, word, wordBytes, judged, optional, whole}
 use Rattle.model.specs.Machine.{zeroStart}
 use Rattle.model.specs.Checks.{Accepted, accept, fill}
 
@@ -27,10 +27,6 @@ lend memory (ok entries) =
     when (leb (length entries) (length memory))
     (λ _. record { answer = Entries (length entries); memory = fill entries memory })
     (λ _. record { answer = Refused (record { number = memoryTooShort; place = length entries }); memory = memory })
-
--- "Two-byte numbers are big-endian."
-abbrev pub wordBytes : ℕ → List ℕ
-wordBytes n = n / 256 ∷ n % 256 ∷ []
 
 -- "a byte map of ranks that have a command item (bit r − 1 for rank r)"
 unfoldable pub rankMap : (taken : ℕ → ℕ) → List ℕ → ℕ

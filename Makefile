@@ -1,0 +1,41 @@
+# `make test` is every test and then every proof; `make sample` lists the sample run.
+
+VECTORS := tests/vectors
+HARNESS := target/second/release/harness
+DEFINITIONS := target/definitions
+SEED ?= 1
+COUNT ?= 1000000
+
+.PHONY: test sample soak second harness definitions
+
+# The tests, then rt's own gate, whose last line is the last line printed.
+test: second harness definitions
+	@rt ci
+
+# The second program's own tests.
+second:
+	cd tests/second && cargo test --release --quiet
+
+# The harness over the corpus and over generated inputs.
+harness:
+	cd tests/second && cargo build --release --quiet
+	$(HARNESS) corpus $(VECTORS)
+	$(HARNESS) generated 1 30000
+
+# The corpus's shorter cases, computed by the definitions.
+definitions:
+	cd tests/definitions && cargo build --release --quiet
+	rm -rf $(DEFINITIONS)
+	target/second/release/definitions . $(DEFINITIONS) $(VECTORS)/runs.txt $(VECTORS)/slips.txt $(VECTORS)/table.txt
+	cd $(DEFINITIONS) && rt check cases >check.log 2>&1 || { cat check.log; exit 1; }
+	@tail -n 1 $(DEFINITIONS)/check.log
+
+# More generated inputs: make soak SEED=7 COUNT=1000000
+soak:
+	cd tests/second && cargo build --release --quiet
+	$(HARNESS) generated $(SEED) $(COUNT)
+
+# The listing of the sample run.
+sample:
+	cd tests/second && cargo build --release --quiet
+	$(HARNESS) listing samples/neighbour
