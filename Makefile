@@ -20,7 +20,7 @@ second:
 harness:
 	cd tests/second && cargo build --release --quiet
 	$(HARNESS) corpus $(VECTORS)
-	$(HARNESS) generated 1 30000
+	$(HARNESS) generated 1 20000
 
 # The corpus's shorter cases, computed by the definitions.
 definitions:

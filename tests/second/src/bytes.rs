@@ -16,7 +16,11 @@ pub struct ByteReader<'a> {
 impl<'a> ByteReader<'a> {
     /// Begins at byte 0 of the input.
     pub fn new(bytes: &'a [u8], length_number: u8) -> Self {
-        ByteReader { bytes, at: 0, length_number }
+        ByteReader {
+            bytes,
+            at: 0,
+            length_number,
+        }
     }
 
     /// The place of the next unread byte.

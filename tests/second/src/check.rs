@@ -3,10 +3,11 @@
 use crate::bytes::fill_words;
 use crate::groups::{arrows, gather, Grouping};
 use crate::limits::{number, refuse, Outcome, Refusal};
-use crate::machine::{replay, Machine, Run, Start};
+use crate::machine::{Machine, Run, Start};
 use crate::order::{decide, Verdict};
 use crate::program::Program;
 use crate::record::{read_record, Item};
+use crate::replay::replay;
 
 /// An answer of the whole check; order and ring carry the count of entries filled.
 #[derive(Debug, Clone, Copy, PartialEq, Eq)]
@@ -34,20 +35,36 @@ pub struct Accepted {
     pub verdict: Verdict,
 }
 
-/// Reads program and record, replays, and decides; refuses with 1 to 13.
+/// Reads program and record, replays from document 01's start, and decides; refuses with 1 to 13.
 pub fn accept(program: &[u8], record: &[u8]) -> Outcome<Accepted> {
     let program = Program::read(program)?;
     let items = read_record(record, &program)?;
-    let run = replay(&program, &Start::zero(&program), &items)?;
+    let start = Start::zero(&program);
+    accept_items(program, items, &start)
+}
+
+/// Replays items that have been read from a start, and decides; refuses with 7 to 13.
+pub fn accept_items(program: Program, items: Vec<Item>, start: &Start) -> Outcome<Accepted> {
+    let run = replay(&program, start, &items)?;
     let grouping = gather(&run.steps);
     let arrows = arrows(&run.steps, &grouping.group_of);
     let verdict = decide(grouping.groups.len(), &arrows);
-    Ok(Accepted { program, items, run, grouping, verdict })
+    Ok(Accepted {
+        program,
+        items,
+        run,
+        grouping,
+        verdict,
+    })
 }
 
 /// The last cell values, rank 1 first.
 pub fn last_cells(machine: &Machine) -> Vec<u16> {
-    machine.ranks.iter().flat_map(|rank| rank.cells.iter().copied()).collect()
+    machine
+        .ranks
+        .iter()
+        .flat_map(|rank| rank.cells.iter().copied())
+        .collect()
 }
 
 /// What a check says and what it fills into the two lists.
@@ -65,9 +82,11 @@ pub struct Filled {
 pub fn answer(program: &[u8], record: &[u8], order_entries: usize, cell_entries: usize) -> Filled {
     match fit(program, record, order_entries, cell_entries) {
         Ok(filled) => filled,
-        Err(refusal) => {
-            Filled { answer: Answer::Refused(refusal), groups: Vec::new(), cells: Vec::new() }
-        }
+        Err(refusal) => Filled {
+            answer: Answer::Refused(refusal),
+            groups: Vec::new(),
+            cells: Vec::new(),
+        },
     }
 }
 
@@ -87,12 +106,21 @@ fn fit(
     if cell_entries < cells.len() {
         return refuse(number::MEMORY_SHORT, cells.len());
     }
-    let groups: Vec<u16> = accepted.verdict.groups().iter().map(|&group| group as u16).collect();
+    let groups: Vec<u16> = accepted
+        .verdict
+        .groups()
+        .iter()
+        .map(|&group| group as u16)
+        .collect();
     let answer = match accepted.verdict {
         Verdict::Order(_) => Answer::Order(groups.len()),
         Verdict::Ring(_) => Answer::Ring(groups.len()),
     };
-    Ok(Filled { answer, groups, cells })
+    Ok(Filled {
+        answer,
+        groups,
+        cells,
+    })
 }
 
 /// The whole check on lent lists of 16-bit entries.

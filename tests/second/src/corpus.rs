@@ -78,7 +78,9 @@ impl CheckCase {
             Answer::Ring(_) => Expected::Ring(filled.groups),
             Answer::Refused(refusal) => Expected::Refused(refusal),
         };
-        let slip = accept(&program, &record).ok().map(|accepted| slip_of(&accepted));
+        let slip = accept(&program, &record)
+            .ok()
+            .map(|accepted| slip_of(&accepted));
         let listing = listing_text(&program, &record).0;
         let cells = filled.cells;
         let answer = expected;
@@ -101,7 +103,13 @@ impl SlipCase {
     pub fn answered(name: String, ranks: usize, slip: Vec<u8>, counts_entries: usize) -> SlipCase {
         let mut counts = vec![0; counts_entries];
         let answer = read_slip(ranks, &slip, &mut counts).map(|()| counts[..ranks].to_vec());
-        SlipCase { name, ranks, slip, counts_entries, answer }
+        SlipCase {
+            name,
+            ranks,
+            slip,
+            counts_entries,
+            answer,
+        }
     }
 }
 

@@ -102,7 +102,9 @@ impl<'a> Lines<'a> {
 fn from_hex(text: &str) -> Option<Vec<u8>> {
     let digit = |c: u8| (c as char).to_digit(16).map(|digit| digit as u8);
     let pairs = text.as_bytes().chunks(2);
-    pairs.map(|pair| Some(digit(pair[0])? << 4 | digit(*pair.get(1)?)?)).collect()
+    pairs
+        .map(|pair| Some(digit(pair[0])? << 4 | digit(*pair.get(1)?)?))
+        .collect()
 }
 
 /// Reads all cases of a corpus text; names must differ.
@@ -178,7 +180,13 @@ fn slip_case(lines: &mut Lines) -> Result<SlipCase, String> {
         other => return lines.fault(format!("`{other}` is no answer of a slip reader")),
     };
     lines.take("end")?;
-    Ok(SlipCase { name, ranks, slip, counts_entries, answer })
+    Ok(SlipCase {
+        name,
+        ranks,
+        slip,
+        counts_entries,
+        answer,
+    })
 }
 
 /// Reads one corpus file; a fault names the file.
@@ -200,7 +208,10 @@ pub fn corpus_files(directory: &Path) -> Result<Vec<PathBuf>, String> {
     }
     files.sort();
     if files.is_empty() {
-        return Err(format!("{}: no corpus file (*.txt) here", directory.display()));
+        return Err(format!(
+            "{}: no corpus file (*.txt) here",
+            directory.display()
+        ));
     }
     Ok(files)
 }

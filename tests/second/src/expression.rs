@@ -124,11 +124,7 @@ fn small(rank: usize) -> u16 {
 }
 
 /// Reads one token and its operands; `left` tokens may still be read.
-fn read_tokens(
-    reader: &mut ByteReader,
-    registers: usize,
-    left: &mut usize,
-) -> Outcome<Expression> {
+fn read_tokens(reader: &mut ByteReader, registers: usize, left: &mut usize) -> Outcome<Expression> {
     let place = reader.place();
     let token = reader.byte()?;
     if *left == 0 {
@@ -147,7 +143,11 @@ fn read_tokens(
             let operator = OPERATORS[usize::from(token - FIRST_OPERATOR)];
             let first = read_tokens(reader, registers, left)?;
             let second = read_tokens(reader, registers, left)?;
-            Ok(Expression::Binary(operator, Box::new(first), Box::new(second)))
+            Ok(Expression::Binary(
+                operator,
+                Box::new(first),
+                Box::new(second),
+            ))
         }
         _ => refuse(number::PROGRAM_FORM, place),
     }

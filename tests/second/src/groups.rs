@@ -37,8 +37,16 @@ pub fn gather(steps: &[Step]) -> Grouping {
             Kind::PopA | Kind::PopB => group_of_command[&step.command],
             Kind::Bar if step.act.rank() != 1 => group_of[item - 1],
             kind => {
-                let rank = if kind == Kind::Bar { 0 } else { step.act.rank() };
-                groups.push(Group { kind, rank, items: Vec::new() });
+                let rank = if kind == Kind::Bar {
+                    0
+                } else {
+                    step.act.rank()
+                };
+                groups.push(Group {
+                    kind,
+                    rank,
+                    items: Vec::new(),
+                });
                 groups.len() - 1
             }
         };

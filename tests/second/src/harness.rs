@@ -52,7 +52,10 @@ impl fmt::Display for Disagreement {
         writeln!(out, "record {}", to_hex(&self.input.record))?;
         writeln!(out, "order bytes {}", self.input.order_bytes)?;
         writeln!(out, "cell bytes {}", self.input.cell_bytes)?;
-        writeln!(out, "(both lists below have {GUARD} guard bytes before and after)")?;
+        writeln!(
+            out,
+            "(both lists below have {GUARD} guard bytes before and after)"
+        )?;
         writeln!(out, "right: {:?}", self.right)?;
         write!(out, "subject: {:?}", self.subject)
     }
@@ -60,7 +63,9 @@ impl fmt::Display for Disagreement {
 
 /// A list of so many bytes in its guards, all filled with bytes that change from place to place.
 fn lent(bytes: usize) -> Vec<u8> {
-    (0..bytes + 2 * GUARD).map(|at| 0xC0 | (at % 61) as u8).collect()
+    (0..bytes + 2 * GUARD)
+        .map(|at| 0xC0 | (at % 61) as u8)
+        .collect()
 }
 
 /// The part of a guarded list that is lent.
@@ -73,8 +78,17 @@ fn inner(list: &mut [u8]) -> &mut [u8] {
 pub fn observe(subject: Subject, input: &Input) -> Observed {
     let mut order = lent(input.order_bytes);
     let mut cells = lent(input.cell_bytes);
-    let answer = subject(&input.program, &input.record, inner(&mut order), inner(&mut cells));
-    Observed { answer, order, cells }
+    let answer = subject(
+        &input.program,
+        &input.record,
+        inner(&mut order),
+        inner(&mut cells),
+    );
+    Observed {
+        answer,
+        order,
+        cells,
+    }
 }
 
 /// Compares a subject with the second program on one input.
@@ -89,7 +103,11 @@ fn agree(subject: Subject, input: &Input, right: Observed) -> Result<Answer, Box
     if subject == right {
         return Ok(right.answer);
     }
-    Err(Box::new(Disagreement { input: input.clone(), right, subject }))
+    Err(Box::new(Disagreement {
+        input: input.clone(),
+        right,
+        subject,
+    }))
 }
 
 /// Compares a subject with the answer a corpus case holds, with even and with odd list lengths.
@@ -124,7 +142,11 @@ fn observed_of(case: &CheckCase, odd: usize) -> Observed {
         Expected::Refused(refusal) => Answer::Refused(*refusal),
     };
     fill_words(inner(&mut cells), &case.cells);
-    Observed { answer, order, cells }
+    Observed {
+        answer,
+        order,
+        cells,
+    }
 }
 
 /// Checks the second program's listing and slip on a corpus case, memory one byte short included.
@@ -148,13 +170,28 @@ fn check_listing(case: &CheckCase) -> Result<(), String> {
     right[..length].copy_from_slice(case.listing.as_bytes());
     let mut memory = lent(length);
     let listed = write_listing(&case.program, &case.record, &mut memory);
-    if listed != (Listed { written: length, refusal: refusal_of(case) }) || memory != right {
+    if listed
+        != (Listed {
+            written: length,
+            refusal: refusal_of(case),
+        })
+        || memory != right
+    {
         return Err(format!("the listing differs: {listed:?}"));
     }
     let mut memory = lent(length);
     let listed = write_listing(&case.program, &case.record, &mut memory[..length - 1]);
-    let short = Refusal { number: number::MEMORY_SHORT, place: length };
-    if listed != (Listed { written: 0, refusal: Some(short) }) || memory != lent(length) {
+    let short = Refusal {
+        number: number::MEMORY_SHORT,
+        place: length,
+    };
+    if listed
+        != (Listed {
+            written: 0,
+            refusal: Some(short),
+        })
+        || memory != lent(length)
+    {
         return Err(format!("the listing in short memory differs: {listed:?}"));
     }
     Ok(())
@@ -176,7 +213,10 @@ fn check_slip_writer(case: &CheckCase) -> Result<(), String> {
     }
     let mut memory = lent(slip.len());
     let written = write_slip(&case.program, &case.record, &mut memory[..slip.len() - 1]);
-    let short = Refusal { number: number::MEMORY_SHORT, place: slip.len() };
+    let short = Refusal {
+        number: number::MEMORY_SHORT,
+        place: slip.len(),
+    };
     if written != Err(short) || memory != lent(slip.len()) {
         return Err(format!("the slip in short memory differs: {written:?}"));
     }
@@ -185,7 +225,9 @@ fn check_slip_writer(case: &CheckCase) -> Result<(), String> {
 
 /// Checks the second program's slip reader on a corpus case, entries beyond the counts included.
 pub fn check_slip_reader(case: &SlipCase) -> Result<Answer, String> {
-    let fresh: Vec<u16> = (0..case.counts_entries).map(|at| 0xC0C0 + at as u16).collect();
+    let fresh: Vec<u16> = (0..case.counts_entries)
+        .map(|at| 0xC0C0 + at as u16)
+        .collect();
     let mut right = fresh.clone();
     if let Ok(counts) = &case.answer {
         right[..counts.len()].copy_from_slice(counts);
@@ -193,7 +235,9 @@ pub fn check_slip_reader(case: &SlipCase) -> Result<Answer, String> {
     let mut counts = fresh;
     let answer = read_slip(case.ranks, &case.slip, &mut counts);
     if answer != case.answer.clone().map(drop) || counts != right {
-        return Err(format!("the slip reader differs: {answer:?}, counts {counts:?}"));
+        return Err(format!(
+            "the slip reader differs: {answer:?}, counts {counts:?}"
+        ));
     }
     Ok(answer.map_or_else(Answer::Refused, |()| Answer::Order(case.ranks)))
 }
@@ -240,7 +284,9 @@ impl Histogram {
 
     /// How often a number came.
     pub fn refusals(&self, number: u8) -> usize {
-        self.refused.get(&number).map_or(0, |places| places.values().sum())
+        self.refused
+            .get(&number)
+            .map_or(0, |places| places.values().sum())
     }
 }
 

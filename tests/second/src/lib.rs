@@ -4,6 +4,7 @@
 #![forbid(unsafe_code)]
 #![warn(missing_docs)]
 
+pub mod bounded;
 pub mod bytes;
 pub mod check;
 pub mod corpus;
@@ -20,4 +21,5 @@ pub mod machine;
 pub mod order;
 pub mod program;
 pub mod record;
+pub mod replay;
 pub mod slip;

@@ -41,9 +41,10 @@ pub fn lines_of(accepted: &Accepted) -> String {
 pub fn listing_text(program: &[u8], record: &[u8]) -> (String, Option<Refusal>) {
     match accept(program, record) {
         Ok(accepted) => (lines_of(&accepted), None),
-        Err(refusal) => {
-            (format!("refused {} {}\n", refusal.number, refusal.place), Some(refusal))
-        }
+        Err(refusal) => (
+            format!("refused {} {}\n", refusal.number, refusal.place),
+            Some(refusal),
+        ),
     }
 }
 
@@ -51,11 +52,20 @@ pub fn listing_text(program: &[u8], record: &[u8]) -> (String, Option<Refusal>) 
 pub fn write_listing(program: &[u8], record: &[u8], memory: &mut [u8]) -> Listed {
     let (text, refusal) = listing_text(program, record);
     let Some(lent) = memory.get_mut(..text.len()) else {
-        let short = Refusal { number: number::MEMORY_SHORT, place: text.len() };
-        return Listed { written: 0, refusal: Some(short) };
+        let short = Refusal {
+            number: number::MEMORY_SHORT,
+            place: text.len(),
+        };
+        return Listed {
+            written: 0,
+            refusal: Some(short),
+        };
     };
     lent.copy_from_slice(text.as_bytes());
-    Listed { written: text.len(), refusal }
+    Listed {
+        written: text.len(),
+        refusal,
+    }
 }
 
 /// The listing program: the text for `run.prg` and `run.rec` of a directory.

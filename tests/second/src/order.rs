@@ -26,9 +26,8 @@ pub fn decide(count: usize, arrows: &Pairs) -> Verdict {
     let mut placed = vec![false; count];
     let mut order = Vec::new();
     while order.len() < count {
-        let free = |group: &usize| {
-            !placed[*group] && sources[*group].iter().all(|&source| placed[source])
-        };
+        let free =
+            |group: &usize| !placed[*group] && sources[*group].iter().all(|&source| placed[source]);
         let Some(next) = (0..count).find(free) else {
             return Verdict::Ring(ring(&placed, &sources));
         };
@@ -50,7 +49,10 @@ fn sources(count: usize, arrows: &Pairs) -> Vec<Vec<usize>> {
 /// Walks back from the lowest unplaced group until one repeats, and lists the part between.
 fn ring(placed: &[bool], sources: &[Vec<usize>]) -> Vec<usize> {
     let lowest = |groups: &mut dyn Iterator<Item = usize>| {
-        groups.filter(|&group| !placed[group]).min().expect("no group is free, so one is unplaced")
+        groups
+            .filter(|&group| !placed[group])
+            .min()
+            .expect("no group is free, so one is unplaced")
     };
     let mut walk = vec![lowest(&mut (0..placed.len()))];
     loop {
@@ -66,7 +68,9 @@ fn ring(placed: &[bool], sources: &[Vec<usize>]) -> Vec<usize> {
 /// Turns the walked-back part round and begins it at its lowest number.
 fn along_arrows(part: &[usize]) -> Vec<usize> {
     let mut ring: Vec<usize> = part.iter().rev().copied().collect();
-    let lowest = (0..ring.len()).min_by_key(|&index| ring[index]).unwrap_or(0);
+    let lowest = (0..ring.len())
+        .min_by_key(|&index| ring[index])
+        .unwrap_or(0);
     ring.rotate_left(lowest);
     ring
 }

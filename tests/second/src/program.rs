@@ -144,7 +144,14 @@ impl Program {
             transitions.push(read_transition(&mut reader, states, registers)?);
         }
         reader.finish()?;
-        Ok(Program { ranks, cells, registers, queues, states, transitions })
+        Ok(Program {
+            ranks,
+            cells,
+            registers,
+            queues,
+            states,
+            transitions,
+        })
     }
 
     /// The program's bytes.
@@ -206,5 +213,11 @@ fn read_transition(
             expressions.push(Expression::read(reader, registers)?);
         }
     }
-    Ok(Transition { kind, from, to, register, expressions })
+    Ok(Transition {
+        kind,
+        from,
+        to,
+        register,
+        expressions,
+    })
 }

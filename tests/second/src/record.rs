@@ -170,7 +170,11 @@ fn read_act(
     if map & QUEUE_BIT == 0 {
         let transitions = below(program.transitions.len());
         let transition = reader.byte_within(transitions, number::RECORD_RANGE)?;
-        return Ok(Act::Command { kind, rank, transition });
+        return Ok(Act::Command {
+            kind,
+            rank,
+            transition,
+        });
     }
     let queue = reader.byte_within(below(program.queues), number::RECORD_RANGE)?;
     if kind == Kind::PopA {

@@ -18,7 +18,7 @@ fn the_generator_is_repeatable() {
 #[test]
 fn every_refusal_number_is_seen_at_many_places() {
     let mut histogram = Histogram::default();
-    for index in 0..20_000 {
+    for index in 0..12_000 {
         match compare(&check_bytes, &input(5, index)) {
             Ok(answer) => histogram.count(answer),
             Err(disagreement) => panic!("seed 5, index {index}: {disagreement}"),
@@ -29,11 +29,17 @@ fn every_refusal_number_is_seen_at_many_places() {
     }
     println!("{histogram}");
     for number in 1..=16 {
-        let places = histogram.refused.get(&number).map_or(0, |places| places.len());
-        assert!(histogram.refusals(number) >= 50, "number {number} is too rare");
+        let places = histogram
+            .refused
+            .get(&number)
+            .map_or(0, |places| places.len());
+        assert!(
+            histogram.refusals(number) >= 80,
+            "number {number} is too rare"
+        );
         assert!(places >= 5, "number {number} comes at {places} places only");
     }
-    assert!(histogram.orders >= 2_000 && histogram.rings >= 2_000);
+    assert!(histogram.orders >= 2_000 && histogram.rings >= 1_500);
 }
 
 #[test]

@@ -1,6 +1,8 @@
 //! Arrows against the exhaustive judge on many small accepted records.
 
-use second::check::accept;
+use second::check::{accept, accept_items, Accepted};
+use second::generator::executions::{execution, pace};
+use second::generator::programs::{program, SMALL};
 use second::generator::rng::Rng;
 use second::generator::small_run;
 use second::judge::judge;
@@ -8,26 +10,82 @@ use second::machine::Start;
 use second::order::Verdict;
 use second::record::record_bytes;
 
-/// How many small accepted records are judged.
-const RECORDS: u64 = 30_000;
+/// How many small accepted records are judged from document 01's start.
+const RECORDS: u64 = 36_000;
+/// How many are judged from other starts.
+const OTHER_STARTS: u64 = 4_000;
+
+/// How often each kind of verdict was confirmed.
+#[derive(Debug, Default)]
+struct Counts {
+    /// Orders by the groups' numbers.
+    own_orders: usize,
+    /// Orders in which a group comes before one of a lower number.
+    other_orders: usize,
+    /// Rings.
+    rings: usize,
+    /// Orders of no groups.
+    empty_orders: usize,
+}
+
+impl Counts {
+    /// Judges an accepted run and counts its verdict.
+    fn judge(&mut self, accepted: &Accepted, start: &Start, index: u64) {
+        judge(accepted, start).unwrap_or_else(|fault| panic!("index {index}: {fault}"));
+        match &accepted.verdict {
+            Verdict::Order(order) if order.is_empty() => self.empty_orders += 1,
+            Verdict::Order(order) if order.is_sorted() => self.own_orders += 1,
+            Verdict::Order(_) => self.other_orders += 1,
+            Verdict::Ring(_) => self.rings += 1,
+        }
+    }
+}
 
 #[test]
 fn arrows_and_the_exhaustive_judge_agree() {
-    let (mut orders, mut rings, mut empty) = (0, 0, 0);
+    let mut counts = Counts::default();
     for index in 0..RECORDS {
         let (program, items) = small_run(&mut Rng::new(1, index));
-        let (program, record) = (program.to_bytes(), record_bytes(&items));
-        let accepted = accept(&program, &record)
-            .unwrap_or_else(|refusal| panic!("seed 1, index {index}: {refusal:?}"));
-        judge(&accepted, &Start::zero(&accepted.program))
-            .unwrap_or_else(|fault| panic!("seed 1, index {index}: {fault}"));
-        match &accepted.verdict {
-            Verdict::Order(order) if order.is_empty() => empty += 1,
-            Verdict::Order(_) => orders += 1,
-            Verdict::Ring(_) => rings += 1,
-        }
+        let accepted = accept(&program.to_bytes(), &record_bytes(&items))
+            .unwrap_or_else(|refusal| panic!("index {index}: {refusal:?}"));
+        assert_eq!((&accepted.program, &accepted.items), (&program, &items));
+        counts.judge(&accepted, &Start::zero(&program), index);
     }
-    println!("judged: {orders} orders, {rings} rings, {empty} empty orders");
-    assert!(orders + rings >= 20_000, "too few records with groups");
-    assert!(orders >= 5_000 && rings >= 5_000, "orders and rings must both be frequent");
+    println!("judged: {counts:?}");
+    assert!(counts.own_orders >= 10_000, "too few orders");
+    assert!(
+        counts.other_orders >= 2_000,
+        "too few orders other than the record's own"
+    );
+    assert!(counts.rings >= 6_000, "too few rings");
+}
+
+/// A start with random cells, registers and states.
+fn random_start(rng: &mut Rng, program: &second::program::Program) -> Start {
+    let mut start = Start::zero(program);
+    for rank in &mut start.0 {
+        rank.state = rng.below(program.states);
+        rank.cells.iter_mut().for_each(|cell| *cell = rng.value());
+        rank.registers
+            .iter_mut()
+            .for_each(|register| *register = rng.value() % 4);
+    }
+    start
+}
+
+#[test]
+fn they_agree_from_other_starts_too() {
+    let mut counts = Counts::default();
+    for index in 0..OTHER_STARTS {
+        let rng = &mut Rng::new(2, index);
+        let program = program(rng, SMALL);
+        let start = random_start(rng, &program);
+        let pace = pace(rng, 16, 7);
+        let items = execution(rng, &program, &start, pace);
+        let accepted = accept_items(program, items, &start)
+            .unwrap_or_else(|refusal| panic!("index {index}: {refusal:?}"));
+        counts.judge(&accepted, &start, index);
+    }
+    println!("judged from other starts: {counts:?}");
+    assert!(counts.own_orders + counts.other_orders >= 1_000 && counts.rings >= 1_000);
 }

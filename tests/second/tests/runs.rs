@@ -43,12 +43,21 @@ fn runs() -> Vec<CheckCase> {
         Case::Check(case) => case,
         Case::Slip(case) => panic!("{} is a slip case", case.name),
     };
-    parse(RUNS).expect("runs.txt is well formed").into_iter().map(check).collect()
+    parse(RUNS)
+        .expect("runs.txt is well formed")
+        .into_iter()
+        .map(check)
+        .collect()
 }
 
 /// An answer in words.
 fn words(expected: &Expected) -> String {
-    let list = |groups: &[u16]| groups.iter().map(|group| format!(" {group}")).collect::<String>();
+    let list = |groups: &[u16]| {
+        groups
+            .iter()
+            .map(|group| format!(" {group}"))
+            .collect::<String>()
+    };
     match expected {
         Expected::Order(groups) => format!("order{}", list(groups)),
         Expected::Ring(groups) => format!("ring{}", list(groups)),
@@ -61,7 +70,10 @@ fn runs_a_to_l_have_their_whole_answers() {
     let runs = runs();
     assert_eq!(runs.len(), ANSWERS.len());
     for (case, (name, answer)) in runs.iter().zip(ANSWERS) {
-        assert_eq!((case.name.as_str(), words(&case.answer).as_str()), (name, answer));
+        assert_eq!(
+            (case.name.as_str(), words(&case.answer).as_str()),
+            (name, answer)
+        );
         if let Err(disagreement) = compare_case(&second::check::check_bytes, case) {
             panic!("{name}: {disagreement}");
         }
@@ -99,6 +111,12 @@ fn run_m_1024_items_pass_the_count() {
 fn run_m_1025_items_are_5_at_byte_0() {
     let (mut order, mut cells) = ([7; 1025], [8; 3]);
     let answer = check(&ASSIGN, &assigns([4, 1], 1025), &mut order, &mut cells);
-    assert_eq!(answer, Answer::Refused(Refusal { number: 5, place: 0 }));
+    assert_eq!(
+        answer,
+        Answer::Refused(Refusal {
+            number: 5,
+            place: 0
+        })
+    );
     assert_eq!((order, cells), ([7; 1025], [8; 3]));
 }

@@ -66,7 +66,9 @@ pub fn judged_file(seed: u64) -> Result<Named, String> {
         cases.extend(judged_case(seed, index, &mut wanted)?.map(Case::Check));
     }
     if let Some((kind, left)) = wanted.iter().find(|(_, &left)| left > 0) {
-        return Err(format!("{left} judged runs of {kind:?} were not found under seed {seed}"));
+        return Err(format!(
+            "{left} judged runs of {kind:?} were not found under seed {seed}"
+        ));
     }
     let head = "# Small accepted runs; each order or ring confirmed by the exhaustive judge.\n";
     Ok(Named::new("judged.txt", head, &cases))
@@ -83,7 +85,9 @@ fn judged_case(
     let accepted = accept(&program, &record)
         .map_err(|refusal| format!("seed {seed}, index {index}: refused, {refusal:?}"))?;
     let (class, kinds) = (class(&accepted), kinds(&accepted));
-    let is_wanted = kinds.iter().any(|&kind| wanted.get(&(class, kind)).is_some_and(|&n| n > 0));
+    let is_wanted = kinds
+        .iter()
+        .any(|&kind| wanted.get(&(class, kind)).is_some_and(|&n| n > 0));
     if !is_wanted || accepted.grouping.groups.len() < 2 {
         return Ok(None);
     }
@@ -95,9 +99,14 @@ fn judged_case(
         }
     }
     let name = format!("judged-{index}");
-    let (groups, cells) = (accepted.grouping.groups.len(), accepted.run.last.ranks.len());
+    let (groups, cells) = (
+        accepted.grouping.groups.len(),
+        accepted.run.last.ranks.len(),
+    );
     let entries = (groups, cells * accepted.program.cells);
-    Ok(Some(CheckCase::answered(name, program, record, entries.0, entries.1)))
+    Ok(Some(CheckCase::answered(
+        name, program, record, entries.0, entries.1,
+    )))
 }
 
 /// Refusals: for each number 1 to 15 some generated inputs at places as different as can be.
@@ -113,7 +122,9 @@ pub fn refused_file(seed: u64) -> Result<Named, String> {
         }
         let entries = (input.order_bytes / 2, input.cell_bytes / 2);
         let filled = crate::check::answer(&input.program, &input.record, entries.0, entries.1);
-        let Answer::Refused(Refusal { number, place }) = filled.answer else { continue };
+        let Answer::Refused(Refusal { number, place }) = filled.answer else {
+            continue;
+        };
         let places = found.entry(number).or_default();
         if places.len() < PER_NUMBER && !places.contains_key(&place) {
             let name = format!("refused-{number}-{index}");
@@ -122,10 +133,16 @@ pub fn refused_file(seed: u64) -> Result<Named, String> {
             places.insert(place, case);
         }
     }
-    let cases = found.into_values().flat_map(BTreeMap::into_values).map(Case::Check);
+    let cases = found
+        .into_values()
+        .flat_map(BTreeMap::into_values)
+        .map(Case::Check);
     let cases: Vec<Case> = cases.collect();
     if cases.len() < 15 * PER_NUMBER {
-        return Err(format!("only {} refusals were found under seed {seed}", cases.len()));
+        return Err(format!(
+            "only {} refusals were found under seed {seed}",
+            cases.len()
+        ));
     }
     let head = "# Generated inputs that are refused, each number at different places.\n";
     Ok(Named::new("refused.txt", head, &cases))

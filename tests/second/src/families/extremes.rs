@@ -28,7 +28,12 @@ fn program(header: [u8; 5], transitions: &[Vec<u8>]) -> Vec<u8> {
 
 /// A transfer's transition from state 0 to 0.
 fn transfer(kind: u8, own: u8, rank: u8, remote: u8, queue: u8) -> Vec<u8> {
-    let fields = [constant(own), constant(rank), constant(remote), constant(queue)];
+    let fields = [
+        constant(own),
+        constant(rank),
+        constant(remote),
+        constant(queue),
+    ];
     join(&[30, kind, 0, 0], &fields.concat())
 }
 
@@ -53,7 +58,9 @@ fn acted(program: &[u8], acts: &[Act]) -> Vec<u8> {
     let mut machine = Machine::new(&program, &Start::zero(&program));
     let mut items = Vec::new();
     for &act in acts {
-        let step = machine.perform(&program, act).expect("an extreme act is taken");
+        let step = machine
+            .perform(&program, act)
+            .expect("an extreme act is taken");
         let place = step.access.map(|access| access.cell);
         let value = step.access.map(|access| access.value);
         items.push(Item { act, place, value });
@@ -63,20 +70,38 @@ fn acted(program: &[u8], acts: &[Act]) -> Vec<u8> {
 
 /// A command of a rank.
 fn command(kind: Kind, rank: usize, transition: usize) -> Act {
-    Act::Command { kind, rank, transition }
+    Act::Command {
+        kind,
+        rank,
+        transition,
+    }
 }
 
 /// An extreme of a program and acts.
 fn extreme(name: &'static str, program: Vec<u8>, acts: &[Act]) -> Extreme {
     let record = acted(&program, acts);
-    Extreme { name, program, record }
+    Extreme {
+        name,
+        program,
+        record,
+    }
 }
 
 /// All extremes.
 pub fn extremes() -> Vec<Extreme> {
     let mut all = counts();
-    all.extend([long_ring(), long_ring_of_ranks(), rows_of_8(), one_cell_for_all()]);
-    all.extend([all_delayed(), readers_then_writer(), back_and_forth(), many_transitions()]);
+    all.extend([
+        long_ring(),
+        long_ring_of_ranks(),
+        rows_of_8(),
+        one_cell_for_all(),
+    ]);
+    all.extend([
+        all_delayed(),
+        readers_then_writer(),
+        back_and_forth(),
+        many_transitions(),
+    ]);
     all.extend([largest_expressions(), right_leaning(), all_cells()]);
     all
 }
@@ -85,7 +110,11 @@ pub fn extremes() -> Vec<Extreme> {
 fn counts() -> Vec<Extreme> {
     let assigns = program([1, 1, 1, 1, 1], &[assign()]);
     let items = |count: usize| record_of(count as u16, &[3, 3, 1, 0].repeat(count));
-    let of = |name, program: &[u8], record| Extreme { name, program: program.to_vec(), record };
+    let of = |name, program: &[u8], record| Extreme {
+        name,
+        program: program.to_vec(),
+        record,
+    };
     vec![
         of("run-m-1024", &assigns, items(1024)),
         of("run-m-1025", &assigns, items(1025)),
@@ -99,11 +128,17 @@ fn counts() -> Vec<Extreme> {
 
 /// A write whose fetch comes after all other commands: one ring of 1,022 groups.
 fn long_ring() -> Extreme {
-    let code = program([1, 2, 1, 1, 1], &[transfer(6, 0, 1, 1, 0), assign(), store(0, 7)]);
+    let code = program(
+        [1, 2, 1, 1, 1],
+        &[transfer(6, 0, 1, 1, 0), assign(), store(0, 7)],
+    );
     let mut acts = vec![command(Kind::Write, 1, 0)];
     acts.extend([command(Kind::Assign, 1, 1); 1020]);
     acts.push(command(Kind::Store, 1, 2));
-    acts.extend([Act::PopA { rank: 1, queue: 0 }, Act::PopB { rank: 1, queue: 0 }]);
+    acts.extend([
+        Act::PopA { rank: 1, queue: 0 },
+        Act::PopB { rank: 1, queue: 0 },
+    ]);
     extreme("long-ring", code, &acts)
 }
 
@@ -178,7 +213,11 @@ fn readers_then_writer() -> Extreme {
 fn back_and_forth() -> Extreme {
     let code = program(
         [2, 1, 1, 1, 1],
-        &[transfer(6, 0, 2, 0, 0), transfer(6, 0, 1, 0, 0), join(&[6, 2, 0, 0, 0, 0, 0], &[2])],
+        &[
+            transfer(6, 0, 2, 0, 0),
+            transfer(6, 0, 1, 0, 0),
+            join(&[6, 2, 0, 0, 0, 0, 0], &[2]),
+        ],
     );
     let mut acts = vec![command(Kind::Store, 1, 2), command(Kind::Store, 2, 2)];
     for _ in 0..100 {
@@ -193,11 +232,16 @@ fn back_and_forth() -> Extreme {
 fn many_transitions() -> Extreme {
     let assign_at = |number: u8| {
         let from = number % 64;
-        join(&[3, 3, from, (from + 1) % 64, number % 16], &constant(number))
+        join(
+            &[3, 3, from, (from + 1) % 64, number % 16],
+            &constant(number),
+        )
     };
     let transitions: Vec<Vec<u8>> = (0..128).map(assign_at).collect();
     let code = program([1, 64, 16, 4, 64], &transitions);
-    let acts: Vec<Act> = (0..128).map(|number| command(Kind::Assign, 1, number)).collect();
+    let acts: Vec<Act> = (0..128)
+        .map(|number| command(Kind::Assign, 1, number))
+        .collect();
     extreme("transitions-128", code, &acts)
 }
 
@@ -211,7 +255,10 @@ fn largest_expressions() -> Extreme {
     };
     let fields = [deep(0), deep(1), deep(1), deep(0)].concat();
     let code = program([1, 2, 1, 1, 1], &[join(&[30, 6, 0, 0], &fields)]);
-    let pops = [Act::PopA { rank: 1, queue: 0 }, Act::PopB { rank: 1, queue: 0 }];
+    let pops = [
+        Act::PopA { rank: 1, queue: 0 },
+        Act::PopB { rank: 1, queue: 0 },
+    ];
     let acts = [vec![command(Kind::Write, 1, 0)], pops.to_vec()].concat();
     extreme("tokens-15", code, &acts)
 }

@@ -7,6 +7,7 @@ pub mod replay_table;
 pub mod slips;
 pub mod table;
 
+use crate::bounded::judge_bounded;
 use crate::check::accept;
 use crate::corpus::{Case, CheckCase, Expected};
 use crate::judge::judge_order;
@@ -53,7 +54,10 @@ fn table_file() -> Result<Named, String> {
         let (order, cells) = (row.order_entries, row.cell_entries);
         let case = CheckCase::answered(row.name, row.program, row.record, order, cells);
         if case.answer != Expected::Refused(row.refusal) {
-            return Err(format!("{}: {:?}, by hand {:?}", case.name, case.answer, row.refusal));
+            return Err(format!(
+                "{}: {:?}, by hand {:?}",
+                case.name, case.answer, row.refusal
+            ));
         }
         cases.push(Case::Check(case));
     }
@@ -61,19 +65,27 @@ fn table_file() -> Result<Named, String> {
     Ok(Named::new("table.txt", head, &cases))
 }
 
-/// The file of extremes; every order is replayed as a plain run.
+/// Places a bounded search may visit for an extreme.
+const SEARCH_LIMIT: usize = 20_000;
+
+/// The file of extremes; every order is replayed as a plain run, and the searches that come to an
+/// end must agree.
 fn extremes_file() -> Result<Named, String> {
     let mut cases = Vec::new();
     for extreme in extremes::extremes() {
         if let Ok(accepted) = accept(&extreme.program, &extreme.record) {
+            let start = Start::zero(&accepted.program);
             if let Verdict::Order(order) = &accepted.verdict {
-                judge_order(&accepted, &Start::zero(&accepted.program), order)?;
+                judge_order(&accepted, &start, order)?;
             }
+            judge_bounded(&accepted, &start, SEARCH_LIMIT)?;
         }
         let name = extreme.name.to_string();
         let (program, record) = (extreme.program, extreme.record);
         let lists = (MAX_ITEMS, MAX_RANKS * MAX_CELLS);
-        cases.push(Case::Check(CheckCase::answered(name, program, record, lists.0, lists.1)));
+        cases.push(Case::Check(CheckCase::answered(
+            name, program, record, lists.0, lists.1,
+        )));
     }
     let head = "# Extremes: the limits of document 01 and the long ways round; run m among them.\n";
     Ok(Named::new("extremes.txt", head, &cases))

@@ -40,7 +40,14 @@ use items::*;
 fn row(what: &str, program: Vec<u8>, record: Vec<u8>, number: u8, place: usize) -> Row {
     let name = format!("table-{number}-{what}-at-{place}");
     let refusal = Refusal { number, place };
-    Row { name, program, record, order_entries: 40, cell_entries: 40, refusal }
+    Row {
+        name,
+        program,
+        record,
+        order_entries: 40,
+        cell_entries: 40,
+        refusal,
+    }
 }
 
 /// A row of the base program with this record.
@@ -50,7 +57,15 @@ fn record_row(what: &str, record: Vec<u8>, number: u8, place: usize) -> Row {
 
 /// All rows of the replay.
 pub fn rows() -> Vec<Row> {
-    let parts = [transitions(), evaluated(), assumes(), pops(), places(), barriers(), ends()];
+    let parts = [
+        transitions(),
+        evaluated(),
+        assumes(),
+        pops(),
+        places(),
+        barriers(),
+        ends(),
+    ];
     parts.into_iter().flatten().collect()
 }
 
@@ -95,8 +110,18 @@ fn evaluated() -> Vec<Row> {
 fn assumes() -> Vec<Row> {
     vec![
         record_row("assume", one(ASSUME_2), 9, 0),
-        record_row("assume-after-one-that-passes", several(&[ASSUME_1, ASSUME_2]), 9, 1),
-        record_row("assume-while-queued", several(&[WRITE, STORE, ASSUME_2]), 9, 2),
+        record_row(
+            "assume-after-one-that-passes",
+            several(&[ASSUME_1, ASSUME_2]),
+            9,
+            1,
+        ),
+        record_row(
+            "assume-while-queued",
+            several(&[WRITE, STORE, ASSUME_2]),
+            9,
+            2,
+        ),
     ]
 }
 
@@ -129,9 +154,24 @@ fn places() -> Vec<Row> {
         .into_iter()
         .map(|(what, change, place)| record_row(what, record_with(&[change]), 11, place))
         .collect();
-    rows.push(record_row("load-value", several(&[STORE, LOAD_OF_1]), 11, 1));
-    rows.push(record_row("load-place", one(&[27, 1, 1, 1, 2, 0, 1]), 11, 0));
-    rows.push(record_row("popa-value", several(&[WRITE, POPA_OF_9]), 11, 1));
+    rows.push(record_row(
+        "load-value",
+        several(&[STORE, LOAD_OF_1]),
+        11,
+        1,
+    ));
+    rows.push(record_row(
+        "load-place",
+        one(&[27, 1, 1, 1, 2, 0, 1]),
+        11,
+        0,
+    ));
+    rows.push(record_row(
+        "popa-value",
+        several(&[WRITE, POPA_OF_9]),
+        11,
+        1,
+    ));
     rows
 }
 
@@ -144,9 +184,19 @@ fn barriers() -> Vec<Row> {
         record_row("bar-2-for-1", record_with(&[(51, 2)]), 12, 7),
         record_row("bar-1-again", several(&[BAR_1, SECOND_BAR_1]), 12, 1),
         record_row("command-in-row", several(&[BAR_1, STORE]), 12, 1),
-        record_row("other-rank-in-row", several(&[BAR_1, ASSUME_2, BAR_2]), 12, 1),
+        record_row(
+            "other-rank-in-row",
+            several(&[BAR_1, ASSUME_2, BAR_2]),
+            12,
+            1,
+        ),
         record_row("popa-in-row", several(&[BAR_1, POPA]), 12, 1),
-        record_row("popb-in-row", several(&[WRITE, POPA, BAR_1, POPB, BAR_2]), 12, 3),
+        record_row(
+            "popb-in-row",
+            several(&[WRITE, POPA, BAR_1, POPB, BAR_2]),
+            12,
+            3,
+        ),
         record_row("row-open-at-end", one(BAR_1), 12, 1),
         record_row("row-open-before-13", several(&[WRITE, BAR_1]), 12, 2),
     ]

@@ -9,7 +9,13 @@ use crate::limits::Refusal;
 const GENERATED: u64 = 60;
 
 /// A slip case by hand: what it is, N, slip, list length, and the counts or the refusal.
-type Row = (&'static str, usize, &'static [u8], usize, Result<&'static [u16], (u8, usize)>);
+type Row = (
+    &'static str,
+    usize,
+    &'static [u8],
+    usize,
+    Result<&'static [u16], (u8, usize)>,
+);
 
 /// The slip cases by hand.
 const ROWS: [Row; 32] = [
@@ -19,7 +25,13 @@ const ROWS: [Row; 32] = [
     ("count-1024", 1, &[1, 4, 0], 1, Ok(&[1024])),
     ("second-of-3", 3, &[2, 0, 7], 3, Ok(&[0, 7, 0])),
     ("first-and-third", 3, &[5, 0, 7, 1, 0], 3, Ok(&[7, 0, 256])),
-    ("last-of-8", 8, &[128, 3, 255], 8, Ok(&[0, 0, 0, 0, 0, 0, 0, 1023])),
+    (
+        "last-of-8",
+        8,
+        &[128, 3, 255],
+        8,
+        Ok(&[0, 0, 0, 0, 0, 0, 0, 1023]),
+    ),
     ("entries-beyond", 2, &[3, 0, 4, 0, 3], 5, Ok(&[4, 3])),
     ("all-1024", 2, &[3, 4, 0, 4, 0], 2, Ok(&[1024, 1024])),
     ("n-0", 0, &[0], 8, Err((16, 0))),
@@ -35,12 +47,24 @@ const ROWS: [Row; 32] = [
     ("count-1025", 1, &[1, 4, 1], 1, Err((16, 1))),
     ("count-65535", 1, &[1, 255, 255], 1, Err((16, 1))),
     ("second-count-0", 2, &[3, 0, 1, 0, 0], 2, Err((16, 3))),
-    ("third-count-1025", 4, &[14, 0, 1, 0, 2, 4, 1], 4, Err((16, 5))),
+    (
+        "third-count-1025",
+        4,
+        &[14, 0, 1, 0, 2, 4, 1],
+        4,
+        Err((16, 5)),
+    ),
     ("no-count", 1, &[1], 1, Err((16, 1))),
     ("half-a-count", 1, &[1, 0], 1, Err((16, 2))),
     ("half-a-second-count", 2, &[3, 0, 1, 4], 2, Err((16, 4))),
     ("one-left", 1, &[0, 0], 1, Err((16, 1))),
-    ("one-left-after-counts", 2, &[3, 0, 1, 0, 2, 0], 2, Err((16, 5))),
+    (
+        "one-left-after-counts",
+        2,
+        &[3, 0, 1, 0, 2, 0],
+        2,
+        Err((16, 5)),
+    ),
     ("count-before-left-over", 1, &[1, 0, 0, 9], 1, Err((16, 1))),
     ("list-short", 2, &[3, 0, 1, 0, 2], 1, Err((15, 2))),
     ("list-empty", 8, &[0], 0, Err((15, 8))),
@@ -56,7 +80,10 @@ pub fn cases(seed: u64) -> Result<Vec<Case>, String> {
             .map(<[u16]>::to_vec)
             .map_err(|(number, place)| Refusal { number, place });
         if case.answer != by_hand {
-            return Err(format!("{}: {:?}, by hand {by_hand:?}", case.name, case.answer));
+            return Err(format!(
+                "{}: {:?}, by hand {by_hand:?}",
+                case.name, case.answer
+            ));
         }
         cases.push(Case::Slip(case));
     }

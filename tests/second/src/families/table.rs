@@ -24,7 +24,14 @@ pub struct Row {
 fn row(what: &str, program: Vec<u8>, record: Vec<u8>, number: u8, place: usize) -> Row {
     let name = format!("table-{number}-{what}-at-{place}");
     let refusal = Refusal { number, place };
-    Row { name, program, record, order_entries: 40, cell_entries: 40, refusal }
+    Row {
+        name,
+        program,
+        record,
+        order_entries: 40,
+        cell_entries: 40,
+        refusal,
+    }
 }
 
 /// A row with another program.
@@ -39,7 +46,13 @@ fn record_row(what: &str, record: Vec<u8>, number: u8, place: usize) -> Row {
 
 /// All rows.
 pub fn rows() -> Vec<Row> {
-    let parts = [lengths(), program_ranges(), program_forms(), tokens(), record_ranges()];
+    let parts = [
+        lengths(),
+        program_ranges(),
+        program_forms(),
+        tokens(),
+        record_ranges(),
+    ];
     let later = [record_forms(), super::replay_table::rows(), precedence()];
     parts.into_iter().chain(later).flatten().collect()
 }
@@ -48,16 +61,36 @@ pub fn rows() -> Vec<Row> {
 fn lengths() -> Vec<Row> {
     let mut rows = Vec::new();
     for length in 0..BASE_PROGRAM.len() {
-        rows.push(program_row("cut", BASE_PROGRAM[..length].to_vec(), 1, length));
+        rows.push(program_row(
+            "cut",
+            BASE_PROGRAM[..length].to_vec(),
+            1,
+            length,
+        ));
     }
     for length in 0..BASE_RECORD.len() {
         rows.push(record_row("cut", BASE_RECORD[..length].to_vec(), 4, length));
     }
     rows.push(program_row("one-left", join(&BASE_PROGRAM, &[0]), 1, 81));
-    rows.push(program_row("three-left", join(&BASE_PROGRAM, &[9, 9, 9]), 1, 81));
-    rows.push(program_row("fewer-transitions", program_with(&[(5, 7)]), 1, 77));
+    rows.push(program_row(
+        "three-left",
+        join(&BASE_PROGRAM, &[9, 9, 9]),
+        1,
+        81,
+    ));
+    rows.push(program_row(
+        "fewer-transitions",
+        program_with(&[(5, 7)]),
+        1,
+        77,
+    ));
     rows.push(program_row("no-transitions", program_with(&[(5, 0)]), 1, 6));
-    rows.push(program_row("more-transitions", program_with(&[(5, 9)]), 1, 81));
+    rows.push(program_row(
+        "more-transitions",
+        program_with(&[(5, 9)]),
+        1,
+        81,
+    ));
     rows.push(record_row("one-left", join(&BASE_RECORD, &[0]), 4, 57));
     rows.push(record_row("fewer-items", record_with(&[(1, 8)]), 4, 53));
     rows.push(record_row("no-items", record_with(&[(1, 0)]), 4, 2));
@@ -95,12 +128,15 @@ fn program_ranges() -> Vec<Row> {
     ];
     let mut rows: Vec<Row> = outside
         .into_iter()
-        .map(|(at, byte)| {
-            program_row(&format!("byte-{byte}"), program_with(&[(at, byte)]), 2, at)
-        })
+        .map(|(at, byte)| program_row(&format!("byte-{byte}"), program_with(&[(at, byte)]), 2, at))
         .collect();
     rows.push(program_row("fewer-states", program_with(&[(4, 1)]), 2, 76));
-    rows.push(program_row("fewer-registers", program_with(&[(2, 1)]), 2, 14));
+    rows.push(program_row(
+        "fewer-registers",
+        program_with(&[(2, 1)]),
+        2,
+        14,
+    ));
     rows.push(program_row("header-alone", vec![9], 2, 0));
     rows.push(program_row("header-start", vec![2, 65], 2, 1));
     rows
@@ -113,35 +149,93 @@ fn program_forms() -> Vec<Row> {
         let what = format!("kind-{kind}");
         rows.push(program_row(&what, program_with(&[(7, kind)]), 3, 7));
         let what = format!("kind-{kind}-and-map");
-        rows.push(program_row(&what, program_with(&[(73, 255), (74, kind)]), 3, 74));
+        rows.push(program_row(
+            &what,
+            program_with(&[(73, 255), (74, kind)]),
+            3,
+            74,
+        ));
     }
     for map in [0, 2, 3, 7, 38, 255] {
-        rows.push(program_row(&format!("map-{map}"), program_with(&[(6, map)]), 3, 6));
+        rows.push(program_row(
+            &format!("map-{map}"),
+            program_with(&[(6, map)]),
+            3,
+            6,
+        ));
     }
     for (at, map) in [(15, 2), (23, 7), (33, 3), (42, 14), (59, 62), (73, 1)] {
-        rows.push(program_row(&format!("map-{map}"), program_with(&[(at, map)]), 3, at));
+        rows.push(program_row(
+            &format!("map-{map}"),
+            program_with(&[(at, map)]),
+            3,
+            at,
+        ));
     }
-    rows.push(program_row("kind-missing", vec![1, 1, 1, 1, 1, 1, 255], 1, 7));
-    rows.push(program_row("map-then-end", vec![1, 1, 1, 1, 1, 1, 255, 9], 3, 6));
+    rows.push(program_row(
+        "kind-missing",
+        vec![1, 1, 1, 1, 1, 1, 255],
+        1,
+        7,
+    ));
+    rows.push(program_row(
+        "map-then-end",
+        vec![1, 1, 1, 1, 1, 1, 255, 9],
+        3,
+        6,
+    ));
     rows
 }
 
 /// Row 3: tokens.
 fn tokens() -> Vec<Row> {
     let mut rows = Vec::new();
-    for (at, token) in [(10, 4), (10, 15), (10, 21), (13, 255), (29, 5), (38, 32), (53, 4)] {
-        rows.push(program_row(&format!("token-{token}"), program_with(&[(at, token)]), 3, at));
+    for (at, token) in [
+        (10, 4),
+        (10, 15),
+        (10, 21),
+        (13, 255),
+        (29, 5),
+        (38, 32),
+        (53, 4),
+    ] {
+        rows.push(program_row(
+            &format!("token-{token}"),
+            program_with(&[(at, token)]),
+            3,
+            at,
+        ));
     }
     let sum = 0x10;
     let full = [sum; 15];
     rows.push(program_row("fifteen-then-end", one_assume(&full), 1, 25));
     rows.push(program_row("sixteen-sums", one_assume(&[sum; 16]), 3, 25));
-    rows.push(program_row("sixteenth-unknown", one_assume(&join(&full, &[99])), 3, 25));
-    rows.push(program_row("sixteenth-constant", one_assume(&join(&full, &[0])), 3, 25));
+    rows.push(program_row(
+        "sixteenth-unknown",
+        one_assume(&join(&full, &[99])),
+        3,
+        25,
+    ));
+    rows.push(program_row(
+        "sixteenth-constant",
+        one_assume(&join(&full, &[0])),
+        3,
+        25,
+    ));
     let constants = join(&[sum; 8], &[0; 21]);
-    rows.push(program_row("sixteenth-after-constants", one_assume(&join(&constants, &[2])), 3, 39));
+    rows.push(program_row(
+        "sixteenth-after-constants",
+        one_assume(&join(&constants, &[2])),
+        3,
+        39,
+    ));
     let registers = join(&[sum; 8], &[1, 0].repeat(7));
-    rows.push(program_row("sixteenth-after-registers", one_assume(&join(&registers, &[3])), 3, 32));
+    rows.push(program_row(
+        "sixteenth-after-registers",
+        one_assume(&join(&registers, &[3])),
+        3,
+        32,
+    ));
     rows.push(program_row("register-token-half", one_assume(&[1]), 1, 11));
     rows.push(program_row("register-token", one_assume(&[1, 1]), 2, 11));
     rows
@@ -178,13 +272,34 @@ fn record_ranges() -> Vec<Row> {
         .collect();
     for (first, low, high) in [(7, 2, 0), (7, 0, 1), (24, 2, 0), (31, 255, 255)] {
         let what = format!("cell-{high}-{low}");
-        rows.push(record_row(&what, record_with(&[(first, high), (first + 1, low)]), 5, first));
+        rows.push(record_row(
+            &what,
+            record_with(&[(first, high), (first + 1, low)]),
+            5,
+            first,
+        ));
     }
-    rows.push(record_row("count-1025", record_with(&[(0, 4), (1, 1)]), 5, 0));
+    rows.push(record_row(
+        "count-1025",
+        record_with(&[(0, 4), (1, 1)]),
+        5,
+        0,
+    ));
     rows.push(record_row("count-65535", vec![255, 255], 5, 0));
-    rows.push(record_row("count-1024", record_with(&[(0, 4), (1, 0)]), 4, 57));
+    rows.push(record_row(
+        "count-1024",
+        record_with(&[(0, 4), (1, 0)]),
+        4,
+        57,
+    ));
     let no_transitions = vec![1, 1, 1, 1, 1, 0];
-    rows.push(row("no-transition", no_transitions, one(&[3, 3, 1, 0]), 5, 5));
+    rows.push(row(
+        "no-transition",
+        no_transitions,
+        one(&[3, 3, 1, 0]),
+        5,
+        5,
+    ));
     rows
 }
 
@@ -192,15 +307,38 @@ fn record_ranges() -> Vec<Row> {
 fn record_forms() -> Vec<Row> {
     let mut rows = Vec::new();
     for kind in [0, 10, 255] {
-        rows.push(record_row(&format!("kind-{kind}"), record_with(&[(3, kind)]), 6, 3));
+        rows.push(record_row(
+            &format!("kind-{kind}"),
+            record_with(&[(3, kind)]),
+            6,
+            3,
+        ));
         let what = format!("kind-{kind}-and-map");
         rows.push(record_row(&what, record_with(&[(2, 0), (3, kind)]), 6, 3));
     }
     for map in [0, 3, 25, 29, 31, 61, 63, 91, 255] {
-        rows.push(record_row(&format!("map-{map}"), record_with(&[(2, map)]), 6, 2));
+        rows.push(record_row(
+            &format!("map-{map}"),
+            record_with(&[(2, map)]),
+            6,
+            2,
+        ));
     }
-    for (at, map) in [(11, 27), (15, 35), (19, 27), (26, 59), (35, 3), (42, 21), (49, 0)] {
-        rows.push(record_row(&format!("map-{map}"), record_with(&[(at, map)]), 6, at));
+    for (at, map) in [
+        (11, 27),
+        (15, 35),
+        (19, 27),
+        (26, 59),
+        (35, 3),
+        (42, 21),
+        (49, 0),
+    ] {
+        rows.push(record_row(
+            &format!("map-{map}"),
+            record_with(&[(at, map)]),
+            6,
+            at,
+        ));
     }
     rows.push(record_row("kind-missing", vec![0, 1, 255], 4, 3));
     rows.push(record_row("map-then-end", vec![0, 1, 255, 1], 6, 2));
@@ -218,7 +356,13 @@ fn precedence() -> Vec<Row> {
     let sound = |number, place| record_row("sound", BASE_RECORD.to_vec(), number, place);
     let first_items = record_of(4, &BASE_RECORD[2..26]);
     vec![
-        row("program-first", join(&BASE_PROGRAM, &[0]), Vec::new(), 1, 81),
+        row(
+            "program-first",
+            join(&BASE_PROGRAM, &[0]),
+            Vec::new(),
+            1,
+            81,
+        ),
         row("both-empty", Vec::new(), Vec::new(), 1, 0),
         record_row("record-before-replay", bad_end, 6, 53),
         with_lists(record_row("left", first_items, 13, 4), 0, 0),

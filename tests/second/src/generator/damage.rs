@@ -10,17 +10,21 @@ use std::collections::BTreeMap;
 
 /// Damages an input made of this program and these items, in one random way.
 pub fn damage(rng: &mut Rng, program: &Program, items: &mut Vec<Item>, input: &mut Input) {
-    match rng.below(16) {
+    match rng.below(20) {
         0 => bytes(rng, &mut input.program),
         1 => header(rng, &mut input.program),
         2 => transition_byte(rng, program, &mut input.program),
         3 => bytes(rng, &mut input.record),
         4 => count(rng, &mut input.record),
         5 | 6 => item_byte(rng, items, &mut input.record),
-        7 => shorter_lists(rng, input),
-        8 => lengthen(rng, items, &mut input.record),
-        _ => {
+        7 | 8 => shorter_lists(rng, input),
+        9 => lengthen(rng, items, &mut input.record),
+        10..=15 => {
             reorder(rng, program, items);
+            input.record = record_bytes(items);
+        }
+        _ => {
+            intrude(rng, program, items);
             input.record = record_bytes(items);
         }
     }
@@ -68,7 +72,11 @@ fn transition_byte(rng: &mut Rng, program: &Program, bytes: &mut [u8]) {
     if program.transitions.is_empty() {
         return;
     }
-    let mut before = Program { transitions: Vec::new(), ..program.clone() }.to_bytes();
+    let mut before = Program {
+        transitions: Vec::new(),
+        ..program.clone()
+    }
+    .to_bytes();
     let chosen = rng.below(program.transitions.len());
     for transition in &program.transitions[..chosen] {
         transition.write(&mut before);
@@ -81,10 +89,14 @@ fn transition_byte(rng: &mut Rng, program: &Program, bytes: &mut [u8]) {
 
 /// Changes the item count.
 fn count(rng: &mut Rng, record: &mut [u8]) {
-    let Some(field) = record.first_chunk_mut::<2>() else { return };
+    let Some(field) = record.first_chunk_mut::<2>() else {
+        return;
+    };
     let old = u16::from_be_bytes(*field);
     let (less, more) = (old.wrapping_sub(1), old.wrapping_add(1));
-    *field = rng.pick(&[less, more, more, 1024, 1025, 65535, 0]).to_be_bytes();
+    *field = rng
+        .pick(&[less, more, more, 1024, 1025, 65535, 0])
+        .to_be_bytes();
 }
 
 /// Where an item begins in the record's bytes.
@@ -135,14 +147,13 @@ fn lengthen(rng: &mut Rng, items: &mut Vec<Item>, record: &mut Vec<u8>) {
     *record = record_bytes(items);
 }
 
-/// Exchanges, drops, doubles, cuts, changes or adds whole items.
+/// Exchanges, drops, doubles, cuts or changes whole items.
 fn reorder(rng: &mut Rng, program: &Program, items: &mut Vec<Item>) {
-    let choice = rng.below(9);
-    if items.is_empty() || choice >= 7 {
-        return intrude(rng, program, items);
+    if items.is_empty() {
+        return;
     }
     let (one, other) = (rng.below(items.len()), rng.below(items.len()));
-    match choice {
+    match rng.below(7) {
         0 => items.swap(one, other),
         1 if one + 1 < items.len() => items.swap(one, one + 1),
         2 => drop(items.remove(one)),
@@ -159,9 +170,24 @@ fn changed(rng: &mut Rng, program: &Program, mut item: Item) -> Item {
     let some_cell = rng.below(program.cells);
     match (rng.below(4), &mut item) {
         (0, Item { act, .. }) => change_act(rng, program, act, some_rank),
-        (1, Item { place: Some(place), .. }) => place.rank = some_rank,
-        (2, Item { place: Some(place), .. }) => place.cell = some_cell,
-        (_, Item { value: Some(value), .. }) => *value = value.wrapping_add(1),
+        (
+            1,
+            Item {
+                place: Some(place), ..
+            },
+        ) => place.rank = some_rank,
+        (
+            2,
+            Item {
+                place: Some(place), ..
+            },
+        ) => place.cell = some_cell,
+        (
+            _,
+            Item {
+                value: Some(value), ..
+            },
+        ) => *value = value.wrapping_add(1),
         (_, Item { act, .. }) => change_act(rng, program, act, some_rank),
     }
     item
@@ -187,7 +213,7 @@ fn intrude(rng: &mut Rng, program: &Program, items: &mut Vec<Item>) {
     let at = rng.below(items.len() + 1);
     let rank = rng.within(1..=program.ranks);
     let queue = rng.below(program.queues);
-    let act = match rng.below(6) {
+    let act = match rng.below(8) {
         0 => Some(Act::PopA { rank, queue }),
         1 => Some(Act::PopB { rank, queue }),
         2 => any_command(rng, program, Some(Kind::Bar)),
@@ -207,7 +233,11 @@ fn any_command(rng: &mut Rng, program: &Program, kind: Option<Kind>) -> Option<A
     let rank = rng.within(1..=program.ranks);
     let transition = rng.below(program.transitions.len());
     let kind = kind.unwrap_or(program.transitions[transition].kind);
-    Some(Act::Command { kind, rank, transition })
+    Some(Act::Command {
+        kind,
+        rank,
+        transition,
+    })
 }
 
 /// A command from the right state that the machine refuses after these items; each of the
@@ -220,9 +250,15 @@ fn refused_command(rng: &mut Rng, program: &Program, before: &[Item]) -> Option<
     let mut refused: BTreeMap<u8, Vec<Act>> = BTreeMap::new();
     for rank in 1..=program.ranks {
         for (index, transition) in program.transitions.iter().enumerate() {
-            let act = Act::Command { kind: transition.kind, rank, transition: index };
-            let fits = transition.from == machine.rank(rank).state;
-            if let (true, Err(number)) = (fits, machine.clone().perform(program, act)) {
+            let act = Act::Command {
+                kind: transition.kind,
+                rank,
+                transition: index,
+            };
+            if transition.from != machine.rank(rank).state {
+                continue;
+            }
+            if let Err(number) = machine.clone().perform(program, act) {
                 refused.entry(number).or_default().push(act);
             }
         }
@@ -239,7 +275,10 @@ fn refused_command(rng: &mut Rng, program: &Program, before: &[Item]) -> Option<
 fn claimed(rng: &mut Rng, program: &Program, act: Act) -> Item {
     let [plain, valued] = maps(act.kind());
     let has_place = plain != valued;
-    let place = Cell { rank: act.rank(), cell: rng.below(program.cells) };
+    let place = Cell {
+        rank: act.rank(),
+        cell: rng.below(program.cells),
+    };
     let place = has_place.then_some(place);
     let value = (has_place && rng.chance(1, 2)).then(|| rng.value());
     Item { act, place, value }

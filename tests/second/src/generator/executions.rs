@@ -20,6 +20,8 @@ pub struct Pace {
     pub popb: usize,
     /// Of four items that may give a value, how many do on average.
     pub valued: usize,
+    /// Whether each transfer is followed at once by its pops, as in a plain run.
+    pub at_once: bool,
 }
 
 /// After so many commands in a row that could not be taken, an execution ends.
@@ -27,12 +29,20 @@ const PATIENCE: usize = 24;
 
 /// A random pace for at most so many items and groups; delays from none to all.
 pub fn pace(rng: &mut Rng, items: usize, groups: usize) -> Pace {
-    const WEIGHTS: [usize; 5] = [0, 1, 2, 4, 16];
+    const WEIGHTS: [usize; 6] = [0, 0, 1, 2, 4, 16];
     let command = rng.within(1..=6);
     let popa = *rng.pick(&WEIGHTS);
     let popb = *rng.pick(&WEIGHTS);
     let valued = *rng.pick(&[0, 2, 4]);
-    Pace { items, groups, command, popa, popb, valued }
+    Pace {
+        items,
+        groups,
+        command,
+        popa,
+        popb,
+        valued,
+        at_once: false,
+    }
 }
 
 /// An execution in the making.
@@ -52,7 +62,13 @@ struct Execution<'a> {
 /// A random execution from the start, which the replay accepts.
 pub fn execution(rng: &mut Rng, program: &Program, start: &Start, pace: Pace) -> Vec<Item> {
     let machine = Machine::new(program, start);
-    let mut execution = Execution { program, machine, items: Vec::new(), groups: 0, pace };
+    let mut execution = Execution {
+        program,
+        machine,
+        items: Vec::new(),
+        groups: 0,
+        pace,
+    };
     let mut failures = 0;
     while failures < PATIENCE && execution.groups < pace.groups {
         let total = pace.command + pace.popa + pace.popb;
@@ -97,19 +113,28 @@ impl Execution<'_> {
         }
         let transition = *rng.pick(&fitting);
         let kind = self.program.transitions[transition].kind;
-        Some(Act::Command { kind, rank, transition })
+        Some(Act::Command {
+            kind,
+            rank,
+            transition,
+        })
     }
 
     /// Tries one command of a random rank, or a whole row; says whether it was taken.
     fn try_command(&mut self, rng: &mut Rng) -> bool {
         let rank = rng.within(1..=self.program.ranks);
-        let Some(act) = self.draw(rng, rank, None) else { return false };
+        let Some(act) = self.draw(rng, rank, None) else {
+            return false;
+        };
         let taken = if act.kind() == Kind::Bar {
             self.try_row(rng)
         } else {
             self.room_for(3) && self.append(rng, act)
         };
         self.groups += usize::from(taken);
+        if self.pace.at_once {
+            self.drain(rng);
+        }
         taken
     }
 
@@ -144,7 +169,9 @@ impl Execution<'_> {
 
     /// Does an act and appends its item; says whether the machine took it.
     fn append(&mut self, rng: &mut Rng, act: Act) -> bool {
-        let Ok(step) = self.machine.perform(self.program, act) else { return false };
+        let Ok(step) = self.machine.perform(self.program, act) else {
+            return false;
+        };
         let place = step.access.map(|access| access.cell);
         let gives = rng.chance(self.pace.valued, 4);
         let value = step.access.map(|access| access.value).filter(|_| gives);

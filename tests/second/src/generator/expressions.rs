@@ -103,7 +103,11 @@ fn by_rank(rng: &mut Rng, program: &Program, value: u16, operators: usize) -> Ex
 /// An expression for a remote rank: fixed, the own one, N, or the opposite one.
 fn remote_rank(rng: &mut Rng, program: &Program, operators: usize) -> Expression {
     if operators >= 2 && rng.chance(1, 3) {
-        let one_more = binary(Operator::Sum, Expression::RankCount, Expression::Constant(1));
+        let one_more = binary(
+            Operator::Sum,
+            Expression::RankCount,
+            Expression::Constant(1),
+        );
         return binary(Operator::Difference, one_more, Expression::OwnRank);
     }
     match rng.below(8) {

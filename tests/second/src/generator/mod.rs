@@ -3,15 +3,17 @@
 pub mod damage;
 pub mod executions;
 pub mod expressions;
+pub mod loosen;
 pub mod programs;
 pub mod rng;
 pub mod slips;
 
+use crate::families::extremes::extremes;
 use crate::machine::Start;
 use crate::program::{Kind, Program};
-use crate::record::{record_bytes, Item};
+use crate::record::{read_record, record_bytes, Item};
 use executions::{execution, pace};
-use programs::{Size, CROWDED, SMALL, WIDE};
+use programs::{Size, CROWDED, MIDDLE, SMALL, WIDE};
 use rng::Rng;
 
 /// One input of the whole check.
@@ -40,42 +42,123 @@ struct Profile {
 
 /// A random small run, for the exhaustive judge: at most 16 items in at most 7 groups.
 pub fn small_run(rng: &mut Rng) -> (Program, Vec<Item>) {
-    run(rng, Profile { size: SMALL, items: 16, groups: 7 })
+    run(
+        rng,
+        Profile {
+            size: SMALL,
+            items: 16,
+            groups: 7,
+        },
+    )
 }
 
 /// A random program and an execution of it from document 01's start.
 fn run(rng: &mut Rng, profile: Profile) -> (Program, Vec<Item>) {
     let program = programs::program(rng, profile.size);
-    let groups = rng.within(0..=profile.groups).max(rng.within(0..=profile.groups));
-    let pace = pace(rng, profile.items, groups);
-    let items = execution(rng, &program, &Start::zero(&program), pace);
+    let groups = rng
+        .within(0..=profile.groups)
+        .max(rng.within(0..=profile.groups));
+    let mut pace = pace(rng, profile.items, groups);
+    pace.at_once = rng.chance(1, 8);
+    let mut items = execution(rng, &program, &Start::zero(&program), pace);
+    if pace.at_once {
+        loosen::loosen(rng, &program, &mut items);
+    }
     (program, items)
+}
+
+/// A long random run whose trace a plain run has: a plain run, loosened.
+pub fn long_loosened_run(rng: &mut Rng) -> (Program, Vec<Item>) {
+    let size = *rng.pick(&[CROWDED, WIDE]);
+    let program = programs::program(rng, size);
+    let mut pace = pace(rng, 1024, 1024);
+    pace.at_once = true;
+    let mut items = execution(rng, &program, &Start::zero(&program), pace);
+    loosen::loosen(rng, &program, &mut items);
+    (program, items)
+}
+
+/// A random run of middle length, at most 40 items, with any delays.
+pub fn middle_run(rng: &mut Rng) -> (Program, Vec<Item>) {
+    run(
+        rng,
+        Profile {
+            size: MIDDLE,
+            items: 40,
+            groups: 24,
+        },
+    )
 }
 
 /// A random profile: mostly small runs, now and then up to all limits.
 fn profile(rng: &mut Rng) -> Profile {
     match rng.below(100) {
-        0..=59 => Profile { size: SMALL, items: 16, groups: 7 },
-        60..=79 => Profile { size: CROWDED, items: 40, groups: 20 },
-        80..=97 => Profile { size: WIDE, items: 60, groups: 40 },
-        98 => Profile { size: CROWDED, items: 1024, groups: 1024 },
-        _ => Profile { size: WIDE, items: 1024, groups: 1024 },
+        0..=59 => Profile {
+            size: SMALL,
+            items: 16,
+            groups: 7,
+        },
+        60..=69 => Profile {
+            size: MIDDLE,
+            items: 40,
+            groups: 24,
+        },
+        70..=79 => Profile {
+            size: CROWDED,
+            items: 60,
+            groups: 30,
+        },
+        80..=97 => Profile {
+            size: WIDE,
+            items: 60,
+            groups: 40,
+        },
+        98 => Profile {
+            size: CROWDED,
+            items: 1024,
+            groups: 1024,
+        },
+        _ => Profile {
+            size: WIDE,
+            items: 1024,
+            groups: 1024,
+        },
     }
 }
 
 /// How many groups the items make, a row counting once.
 pub fn group_count(program: &Program, items: &[Item]) -> usize {
     let of_kind = |kind: Kind| items.iter().filter(|item| item.act.kind() == kind).count();
-    let commands = items.iter().filter(|item| item.act.transition().is_some()).count();
+    let commands = items
+        .iter()
+        .filter(|item| item.act.transition().is_some())
+        .count();
     let bars = of_kind(Kind::Bar);
     commands - bars + bars / program.ranks
+}
+
+/// A run for an input: mostly a random one, now and then an extreme.
+fn any_run(rng: &mut Rng) -> (Program, Vec<Item>) {
+    if rng.chance(1, 150) {
+        let extremes = extremes();
+        let extreme = rng.pick(&extremes);
+        let program = Program::read(&extreme.program);
+        let read = program.and_then(|program| {
+            let items = read_record(&extreme.record, &program)?;
+            Ok((program, items))
+        });
+        if let Ok(read) = read {
+            return read;
+        }
+    }
+    let profile = profile(rng);
+    run(rng, profile)
 }
 
 /// The input of this number under this seed; half of them are damaged.
 pub fn input(seed: u64, index: u64) -> Input {
     let mut rng = Rng::new(seed, index);
-    let profile = profile(&mut rng);
-    let (program, mut items) = run(&mut rng, profile);
+    let (program, mut items) = any_run(&mut rng);
     let groups = group_count(&program, &items);
     let mut input = Input {
         program: program.to_bytes(),

@@ -24,8 +24,25 @@ pub struct Size {
 }
 
 /// Small programs, for records that the exhaustive judge can take.
-pub const SMALL: Size =
-    Size { ranks: 3, cells: 3, registers: 2, queues: 2, states: 4, transitions: 9, operators: 2 };
+pub const SMALL: Size = Size {
+    ranks: 3,
+    cells: 3,
+    registers: 2,
+    queues: 2,
+    states: 4,
+    transitions: 9,
+    operators: 2,
+};
+/// Programs of two or three ranks, for records of middle length.
+pub const MIDDLE: Size = Size {
+    ranks: 3,
+    cells: 4,
+    registers: 4,
+    queues: 2,
+    states: 6,
+    transitions: 16,
+    operators: 4,
+};
 /// Programs up to all the limits of document 01.
 pub const WIDE: Size = Size {
     ranks: 8,
@@ -37,8 +54,15 @@ pub const WIDE: Size = Size {
     operators: 7,
 };
 /// Programs of many ranks and few cells, where accesses meet often.
-pub const CROWDED: Size =
-    Size { ranks: 8, cells: 3, registers: 4, queues: 4, states: 6, transitions: 20, operators: 7 };
+pub const CROWDED: Size = Size {
+    ranks: 8,
+    cells: 3,
+    registers: 4,
+    queues: 4,
+    states: 6,
+    transitions: 20,
+    operators: 7,
+};
 
 /// The kinds of transitions, each as often as it is to be drawn.
 const WEIGHTED_KINDS: [Kind; 18] = [
@@ -62,17 +86,19 @@ const WEIGHTED_KINDS: [Kind; 18] = [
     Kind::Bar,
 ];
 
-/// A random readable program of at most this size.
+/// A random readable program of at most this size, rather of several ranks than of one.
 pub fn program(rng: &mut Rng, size: Size) -> Program {
     let mut program = Program {
-        ranks: rng.within(1..=size.ranks),
+        ranks: rng.within(1..=size.ranks).max(rng.within(1..=size.ranks)),
         cells: rng.within(1..=size.cells),
         registers: rng.within(1..=size.registers),
         queues: rng.within(1..=size.queues),
         states: rng.within(1..=size.states),
         transitions: Vec::new(),
     };
-    let count = rng.within(0..=size.transitions).max(program.states.min(size.transitions));
+    let count = rng
+        .within(0..=size.transitions)
+        .max(program.states.min(size.transitions));
     for number in 0..count {
         let transition = transition(rng, &program, number, size.operators);
         program.transitions.push(transition);
@@ -83,8 +109,16 @@ pub fn program(rng: &mut Rng, size: Size) -> Program {
 /// A random transition; the first S of them leave each state once and lead on to the next.
 fn transition(rng: &mut Rng, program: &Program, number: usize, operators: usize) -> Transition {
     let states = program.states;
-    let from = if number < states { number } else { rng.below(states) };
-    let to = if rng.chance(3, 4) { (from + 1) % states } else { rng.below(states) };
+    let from = if number < states {
+        number
+    } else {
+        rng.below(states)
+    };
+    let to = if rng.chance(3, 4) {
+        (from + 1) % states
+    } else {
+        rng.below(states)
+    };
     let kind = *rng.pick(&WEIGHTED_KINDS);
     let roles: &[Role] = match kind {
         Kind::Load => &[Role::Cell],
@@ -103,5 +137,11 @@ fn transition(rng: &mut Rng, program: &Program, number: usize, operators: usize)
             expression(rng, program, role, operators)
         })
         .collect();
-    Transition { kind, from, to, register, expressions }
+    Transition {
+        kind,
+        from,
+        to,
+        register,
+        expressions,
+    }
 }

@@ -13,12 +13,12 @@ impl Rng {
     /// A generator for one seed and one index under it, so that each input can be had alone.
     pub fn new(seed: u64, index: u64) -> Rng {
         let mut rng = Rng { state: seed };
-        let mixed = rng.next() ^ index.wrapping_mul(0xD6E8_FEB8_6659_FD93);
+        let mixed = rng.bits() ^ index.wrapping_mul(0xD6E8_FEB8_6659_FD93);
         Rng { state: mixed }
     }
 
     /// The next 64 bits.
-    pub fn next(&mut self) -> u64 {
+    pub fn bits(&mut self) -> u64 {
         self.state = self.state.wrapping_add(0x9E37_79B9_7F4A_7C15);
         let mut z = self.state;
         z = (z ^ (z >> 30)).wrapping_mul(0xBF58_476D_1CE4_E5B9);
@@ -28,7 +28,7 @@ impl Rng {
 
     /// A number below the bound, which is not 0.
     pub fn below(&mut self, bound: usize) -> usize {
-        (self.next() % bound as u64) as usize
+        (self.bits() % bound as u64) as usize
     }
 
     /// A number in the range, which is not empty.
@@ -48,7 +48,7 @@ impl Rng {
 
     /// A byte.
     pub fn byte(&mut self) -> u8 {
-        self.next() as u8
+        self.bits() as u8
     }
 
     /// A value, often near a wrap-around.
@@ -57,7 +57,7 @@ impl Rng {
         if self.chance(2, 3) {
             *self.pick(&EDGES)
         } else {
-            self.next() as u16
+            self.bits() as u16
         }
     }
 }

@@ -25,7 +25,11 @@ pub fn slip_input(seed: u64, index: u64) -> SlipInput {
         slip.extend(u16::to_be_bytes(count));
     }
     let counts_entries = ranks + rng.below(3);
-    let mut input = SlipInput { ranks, slip, counts_entries };
+    let mut input = SlipInput {
+        ranks,
+        slip,
+        counts_entries,
+    };
     if rng.chance(1, 2) {
         damage(&mut rng, &mut input);
     }

@@ -2,6 +2,7 @@
 
 use crate::subject::{NAME, SUBJECT};
 use crate::{Done, Failure};
+use second::bounded::judge_bounded;
 use second::check::{accept, check_bytes, Answer};
 use second::corpus::{Case, CheckCase, Expected, SlipCase};
 use second::corpus_reader::{corpus_files, read_file};
@@ -20,8 +21,12 @@ use std::path::Path;
 
 /// Records of at most so many groups go to the exhaustive judge.
 const JUDGED_GROUPS: usize = 7;
+/// Records of at most so many groups go to the bounded search.
+const SEARCHED_GROUPS: usize = 20;
+/// Places the bounded search may visit before it gives up.
+const SEARCH_LIMIT: usize = 100;
 /// One slip and one pair of writers is tried for so many generated inputs.
-const SLIP_EVERY: u64 = 4;
+const SLIP_EVERY: u64 = 6;
 
 /// Compares the subject with every case of the corpus, and the second program's other answers.
 pub fn corpus(directory: &str) -> Done {
@@ -39,7 +44,10 @@ pub fn corpus(directory: &str) -> Done {
             }
         }
     }
-    Ok(format!("corpus: {} cases agree ({NAME})\n{histogram}", names.len()))
+    Ok(format!(
+        "corpus: {} cases agree ({NAME})\n{histogram}",
+        names.len()
+    ))
 }
 
 /// One case of the whole check: subject and second program against the case's answer.
@@ -67,9 +75,8 @@ pub fn generated(seed: u64, count: u64) -> Done {
     let (mut judged_orders, mut judged_rings) = (0, 0);
     for index in 0..count {
         let input = input(seed, index);
-        let named = |fault: String| {
-            Failure::Disagreement(format!("seed {seed}, index {index}\n{fault}"))
-        };
+        let named =
+            |fault: String| Failure::Disagreement(format!("seed {seed}, index {index}\n{fault}"));
         let answer = compare(SUBJECT, &input).map_err(|fault| named(fault.to_string()))?;
         histogram.count(answer);
         if !matches!(answer, Answer::Refused(_)) {
@@ -84,10 +91,12 @@ pub fn generated(seed: u64, count: u64) -> Done {
         }
     }
     let judged = format!("judged by search: {judged_orders} orders, {judged_rings} rings");
-    Ok(format!("generated: {count} inputs agree, seed {seed} ({NAME})\n{judged}\n{histogram}"))
+    Ok(format!(
+        "generated: {count} inputs agree, seed {seed} ({NAME})\n{judged}\n{histogram}"
+    ))
 }
 
-/// Judges an accepted input: every order as a plain run, and small records by search.
+/// Judges an accepted input: every order as a plain run, and records by search if not too long.
 fn judged(input: &Input) -> Result<Option<Verdict>, String> {
     let accepted = accept(&input.program, &input.record)
         .map_err(|refusal| format!("accepted and refused: {refusal:?}"))?;
@@ -99,7 +108,9 @@ fn judged(input: &Input) -> Result<Option<Verdict>, String> {
     if let Verdict::Order(order) = &accepted.verdict {
         judge_order(&accepted, &start, order)?;
     }
-    Ok(None)
+    let short = accepted.grouping.groups.len() <= SEARCHED_GROUPS;
+    let ended = short && judge_bounded(&accepted, &start, SEARCH_LIMIT)?;
+    Ok(ended.then_some(accepted.verdict))
 }
 
 /// The second program's listing, slip writer and slip reader on generated inputs.
@@ -116,7 +127,8 @@ fn generated_extras(
     if let Some(slip) = case.slip {
         let ranks = usize::from(input.program[0]);
         let read = SlipCase::answered(String::new(), ranks, slip, ranks);
-        read.answer.map_err(|refusal| format!("an own slip is refused: {refusal:?}"))?;
+        read.answer
+            .map_err(|refusal| format!("an own slip is refused: {refusal:?}"))?;
     }
     let slip = slip_input(seed, index);
     let case = SlipCase::answered(String::new(), slip.ranks, slip.slip, slip.counts_entries);
@@ -128,7 +140,11 @@ fn generated_extras(
 /// An input's bytes for a person.
 fn hexed(input: &Input) -> String {
     use second::corpus::to_hex;
-    format!("program {}\nrecord {}", to_hex(&input.program), to_hex(&input.record))
+    format!(
+        "program {}\nrecord {}",
+        to_hex(&input.program),
+        to_hex(&input.record)
+    )
 }
 
 /// Makes the corpus files.
@@ -177,7 +193,11 @@ fn shown(case: &Case) -> String {
             (Case::Slip(again), lines)
         }
     };
-    let same = if again == *case { "as the file says" } else { "NOT as the file says" };
+    let same = if again == *case {
+        "as the file says"
+    } else {
+        "NOT as the file says"
+    };
     format!("{}: {same}\n{lines}", case.name())
 }
 
@@ -196,7 +216,10 @@ fn answer_line(case: &CheckCase) -> String {
 pub fn listing(directory: &str) -> Done {
     let directory = Path::new(directory);
     if !directory.is_dir() {
-        return Err(Failure::Input(format!("{}: no directory", directory.display())));
+        return Err(Failure::Input(format!(
+            "{}: no directory",
+            directory.display()
+        )));
     }
     Ok(listing_of_directory(directory))
 }

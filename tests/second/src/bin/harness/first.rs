@@ -46,6 +46,9 @@ pub fn check(program: &[u8], record: &[u8], order: &mut [u8], cells: &mut [u8]) 
     match (packed >> 32) as u32 {
         ORDER => Answer::Order(place),
         RING => Answer::Ring(place),
-        number => Answer::Refused(Refusal { number: number.min(255) as u8, place }),
+        number => Answer::Refused(Refusal {
+            number: number.min(255) as u8,
+            place,
+        }),
     }
 }

@@ -6,6 +6,7 @@
 mod commands;
 mod subject;
 
+use std::io::Write;
 use std::process::ExitCode;
 
 /// What is printed when the arguments are not understood.
@@ -30,7 +31,8 @@ pub type Done = Result<String, Failure>;
 
 /// Reads a decimal argument.
 fn number(what: &str, text: &str) -> Result<u64, Failure> {
-    text.parse().map_err(|_| Failure::Input(format!("{what} `{text}` is no number")))
+    text.parse()
+        .map_err(|_| Failure::Input(format!("{what} `{text}` is no number")))
 }
 
 /// Runs the command that the arguments name.
@@ -58,17 +60,22 @@ fn main() -> ExitCode {
         .collect();
     let arguments: Vec<&str> = arguments.iter().map(String::as_str).collect();
     match run(&arguments) {
-        Ok(text) => {
-            print!("{text}");
-            ExitCode::SUCCESS
-        }
-        Err(Failure::Disagreement(text)) => {
-            println!("{text}");
-            ExitCode::from(1)
-        }
-        Err(Failure::Input(text)) => {
-            eprintln!("harness: {text}");
-            ExitCode::from(2)
-        }
+        Ok(text) => print(&text, ExitCode::SUCCESS),
+        Err(Failure::Disagreement(text)) => print(&format!("{text}\n"), ExitCode::from(1)),
+        Err(Failure::Input(text)) => complain(&text),
     }
+}
+
+/// Prints the text and ends with the status; output that cannot be written is a complaint.
+fn print(text: &str, status: ExitCode) -> ExitCode {
+    match std::io::stdout().write_all(text.as_bytes()) {
+        Ok(()) => status,
+        Err(error) => complain(&format!("the output cannot be written: {error}")),
+    }
+}
+
+/// Says on standard error what is wrong, and ends with status 2.
+fn complain(text: &str) -> ExitCode {
+    eprintln!("harness: {text}");
+    ExitCode::from(2)
 }

@@ -1,0 +1,133 @@
+//! The harness's commands: what they print, and how they end on bad input.
+
+use std::fs;
+use std::path::{Path, PathBuf};
+use std::process::{Command, Output};
+
+/// Runs the harness.
+fn harness(arguments: &[&str]) -> Output {
+    Command::new(env!("CARGO_BIN_EXE_harness"))
+        .args(arguments)
+        .output()
+        .expect("it can be run")
+}
+
+/// The corpus's directory.
+fn vectors() -> String {
+    format!("{}/../vectors", env!("CARGO_MANIFEST_DIR"))
+}
+
+/// A fresh directory for one test.
+fn fresh(name: &str) -> PathBuf {
+    let directory = Path::new(env!("CARGO_TARGET_TMPDIR")).join(name);
+    let _ = fs::remove_dir_all(&directory);
+    fs::create_dir_all(&directory).expect("a directory can be made");
+    directory
+}
+
+/// Fails unless the harness ends with status 2 and says this on standard error.
+fn assert_bad_input(arguments: &[&str], says: &str) {
+    let output = harness(arguments);
+    let error = String::from_utf8_lossy(&output.stderr);
+    assert_eq!(output.status.code(), Some(2), "{arguments:?}: {error}");
+    assert!(error.contains(says), "{arguments:?}: {error}");
+    assert!(output.stdout.is_empty());
+}
+
+#[test]
+fn bad_arguments_end_with_status_2() {
+    assert_bad_input(&[], "usage");
+    assert_bad_input(&["corpse"], "usage");
+    assert_bad_input(&["corpus"], "usage");
+    assert_bad_input(&["generated", "1"], "usage");
+    assert_bad_input(&["generated", "one", "2"], "SEED `one`");
+    assert_bad_input(&["generated", "1", "-2"], "COUNT `-2`");
+    assert_bad_input(&["write-corpus", "x", "y"], "SEED `y`");
+}
+
+#[test]
+fn unreadable_and_malformed_files_end_with_status_2() {
+    let directory = fresh("malformed");
+    let text = |path: &Path| path.to_string_lossy().into_owned();
+    assert_bad_input(&["corpus", &text(&directory.join("absent"))], "absent");
+    assert_bad_input(&["corpus", &text(&directory)], "no corpus file");
+    assert_bad_input(
+        &["show", &text(&directory.join("absent.txt"))],
+        "absent.txt",
+    );
+    assert_bad_input(
+        &["listing", &text(&directory.join("absent"))],
+        "no directory",
+    );
+    assert_bad_input(
+        &["write-corpus", &text(&directory.join("absent")), "1"],
+        "absent",
+    );
+    let file = directory.join("bad.txt");
+    fs::write(&file, "case x\nprogram zz\n").expect("a file can be written");
+    assert_bad_input(&["corpus", &text(&directory)], "bad.txt: line 2");
+    assert_bad_input(&["show", &text(&file)], "bad.txt: line 2");
+    fs::write(&file, [0xff, 0xfe]).expect("a file can be written");
+    assert_bad_input(&["corpus", &text(&directory)], "bad.txt");
+    let runs = format!("{}/runs.txt", vectors());
+    assert_bad_input(&["show", &runs, "run-z"], "no case named `run-z`");
+}
+
+#[test]
+fn a_disagreement_ends_with_status_1() {
+    let directory = fresh("disagreement");
+    let runs = fs::read_to_string(format!("{}/runs.txt", vectors())).expect("runs.txt is there");
+    let wrong = runs.replace("answer ring 3 4 5", "answer ring 3 5 4");
+    fs::write(directory.join("runs.txt"), wrong).expect("a file can be written");
+    let output = harness(&["corpus", &directory.to_string_lossy()]);
+    let text = String::from_utf8_lossy(&output.stdout);
+    assert_eq!(output.status.code(), Some(1), "{text}");
+    for part in [
+        "case run-b",
+        "program 0202",
+        "record 000b",
+        "right:",
+        "subject:",
+    ] {
+        assert!(text.contains(part), "{part}: {text}");
+    }
+}
+
+#[test]
+fn the_corpus_and_generated_inputs_agree() {
+    let output = harness(&["corpus", &vectors()]);
+    assert_eq!(output.status.code(), Some(0));
+    let output = harness(&["generated", "4", "500"]);
+    let text = String::from_utf8_lossy(&output.stdout);
+    assert_eq!(output.status.code(), Some(0));
+    assert!(
+        text.starts_with("generated: 500 inputs agree, seed 4"),
+        "{text}"
+    );
+}
+
+#[test]
+fn one_case_is_shown_for_a_person() {
+    let output = harness(&["show", &format!("{}/runs.txt", vectors()), "run-e"]);
+    let text = String::from_utf8_lossy(&output.stdout);
+    let right = "run-e: as the file says\nanswer ring [0, 1] cells [7, 7]\nring 2\n\
+        group 0 write 1 0\ngroup 1 store 1 1\ncell 1 0 7\ncell 1 1 7\n";
+    assert_eq!(text, right);
+}
+
+#[test]
+fn the_listing_program_takes_a_file_it_cannot_open_as_empty() {
+    let directory = fresh("listing");
+    let list = || {
+        let output = harness(&["listing", &directory.to_string_lossy()]);
+        (
+            output.status.code(),
+            String::from_utf8_lossy(&output.stdout).into_owned(),
+        )
+    };
+    assert_eq!(list(), (Some(0), "refused 1 0\n".into()));
+    fs::write(directory.join("run.prg"), [1, 1, 1, 1, 1, 0]).expect("a file can be written");
+    assert_eq!(list(), (Some(0), "refused 4 0\n".into()));
+    fs::write(directory.join("run.rec"), [0, 0]).expect("a file can be written");
+    assert_eq!(list(), (Some(0), "order 0\n".into()));
+}

@@ -1,0 +1,135 @@
+//! The corpus: whole, current, small, and read with clear faults.
+
+use second::check::check_bytes;
+use second::corpus::{Case, Expected};
+use second::corpus_reader::{corpus_files, parse, read_file};
+use second::families;
+use second::harness::{check_slip_reader, check_writers, compare_case};
+use std::collections::BTreeSet;
+use std::fs;
+use std::path::PathBuf;
+
+/// The seed the corpus is made with.
+const SEED: u64 = 1;
+
+/// The corpus's directory.
+fn directory() -> PathBuf {
+    PathBuf::from(env!("CARGO_MANIFEST_DIR")).join("../vectors")
+}
+
+/// All cases of the corpus.
+fn cases() -> Vec<Case> {
+    let files = corpus_files(&directory()).expect("the corpus is there");
+    let read = |file: &PathBuf| read_file(file).unwrap_or_else(|fault| panic!("{fault}"));
+    files.iter().flat_map(read).collect()
+}
+
+#[test]
+fn the_second_program_agrees_with_every_case() {
+    for case in cases() {
+        match case {
+            Case::Check(case) => {
+                if let Err(disagreement) = compare_case(&check_bytes, &case) {
+                    panic!("{}: {disagreement}", case.name);
+                }
+                check_writers(&case).unwrap_or_else(|fault| panic!("{}: {fault}", case.name));
+            }
+            Case::Slip(case) => {
+                check_slip_reader(&case).unwrap_or_else(|fault| panic!("{}: {fault}", case.name));
+            }
+        }
+    }
+}
+
+#[test]
+fn the_made_files_are_current() {
+    for file in families::files(SEED).expect("the corpus can be made") {
+        let there = fs::read_to_string(directory().join(file.name)).expect("the file is there");
+        assert!(
+            there == file.text,
+            "{} is not what write-corpus makes",
+            file.name
+        );
+    }
+}
+
+#[test]
+fn the_corpus_is_small_and_its_names_differ() {
+    let files = corpus_files(&directory()).expect("the corpus is there");
+    let size: u64 = files
+        .iter()
+        .map(|file| fs::metadata(file).map_or(0, |data| data.len()))
+        .sum();
+    assert!(size < 2_000_000, "{size} bytes");
+    let cases = cases();
+    let names: BTreeSet<&str> = cases.iter().map(Case::name).collect();
+    assert_eq!(names.len(), cases.len());
+    println!("corpus: {} cases, {size} bytes", cases.len());
+}
+
+#[test]
+fn the_corpus_has_every_number_and_both_verdicts() {
+    let mut seen = BTreeSet::new();
+    for case in cases() {
+        match case {
+            Case::Check(case) => match case.answer {
+                Expected::Order(_) => seen.insert(0),
+                Expected::Ring(_) => seen.insert(100),
+                Expected::Refused(refusal) => seen.insert(refusal.number),
+            },
+            Case::Slip(case) => case
+                .answer
+                .is_err_and(|refusal| seen.insert(refusal.number)),
+        };
+    }
+    let all: BTreeSet<u8> = (0..=16).chain([100]).collect();
+    assert_eq!(seen, all);
+}
+
+#[test]
+fn extremes_have_the_answers_known_beforehand() {
+    let answer = |name: &str| {
+        let found = cases().into_iter().find(|case| case.name() == name);
+        match found {
+            Some(Case::Check(case)) => case.answer,
+            other => panic!("{name}: {other:?}"),
+        }
+    };
+    let numbers = |count: u16| (0..count).collect::<Vec<u16>>();
+    assert_eq!(answer("run-m-1024"), Expected::Order(numbers(1024)));
+    assert_eq!(answer("long-ring"), Expected::Ring(numbers(1022)));
+    assert_eq!(answer("rows-of-8"), Expected::Order(numbers(128)));
+    assert_eq!(
+        answer("readers-then-writer"),
+        Expected::Order(numbers(1024))
+    );
+    assert_eq!(answer("transitions-128"), Expected::Order(numbers(128)));
+    assert_eq!(answer("tokens-15"), Expected::Order(numbers(1)));
+    assert_eq!(answer("smallest"), Expected::Order(numbers(0)));
+    assert!(matches!(answer("ring-of-8-ranks"), Expected::Ring(ring) if ring.len() == 16));
+}
+
+#[test]
+fn malformed_corpus_texts_are_refused_at_their_line() {
+    let sound = "case x\nprogram -\nrecord 00\norder-entries 1\ncell-entries 2\n\
+        answer refused 1 0\nlisting refused 1 0\nend\n";
+    assert_eq!(parse(sound).map(|cases| cases.len()), Ok(1));
+    let faults = [
+        ("record 00", "record 0", "line 3"),
+        ("record 00", "record 0x", "line 3"),
+        ("record 00", "recrod 00", "line 3"),
+        ("order-entries 1", "order-entries -1", "line 4"),
+        ("answer refused 1 0", "answer refused 17 0", "line 6"),
+        ("answer refused 1 0", "answer refused 1", "line 6"),
+        ("answer refused 1 0", "answer maybe", "line 6"),
+        ("answer refused 1 0", "answer order 1 70000", "line 6"),
+        ("end\n", "", "line 7"),
+        ("end\n", "end\nnoise\n", "line 9"),
+        ("case x", "slip-case x", "line 2"),
+    ];
+    for (from, to, line) in faults {
+        let fault = parse(&sound.replace(from, to)).expect_err(to);
+        assert!(fault.starts_with(line), "{to}: {fault}");
+    }
+    assert!(parse(&sound.repeat(2)).is_err_and(|fault| fault.contains("second case")));
+}
