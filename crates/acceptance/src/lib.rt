@@ -1,0 +1,1 @@
+// Theorems over the definitions alone: which records the replay accepts.
