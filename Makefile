@@ -14,7 +14,7 @@ test: second harness definitions
 
 # The second program's own tests.
 second:
-	cd tests/second && cargo test --release --quiet
+	cd tests/second && cargo test --release --quiet -- --show-output
 
 # The harness over the corpus and over generated inputs.
 harness:
