@@ -1,0 +1,1 @@
+// What holds of every accepted record: theorems over the definitions, with no function.
