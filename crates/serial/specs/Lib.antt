@@ -1,0 +1,3 @@
+-- The claim, and what it needs of an order.
+pub mod Claim
+pub mod Orders
