@@ -6,10 +6,10 @@ DEFINITIONS := target/definitions
 SEED ?= 1
 COUNT ?= 1000000
 
-.PHONY: test sample soak second harness definitions
+.PHONY: test sample soak second harness definitions edits
 
 # The tests, then rt's own gate, whose last line is the last line printed.
-test: second harness definitions
+test: second harness definitions edits
 	@rt ci
 
 # The second program's own tests.
@@ -29,6 +29,10 @@ definitions:
 	target/second/release/definitions . $(DEFINITIONS) $(VECTORS)/runs.txt $(VECTORS)/slips.txt $(VECTORS)/table.txt
 	cd $(DEFINITIONS) && rt check cases >check.log 2>&1 || { cat check.log; exit 1; }
 	@tail -n 1 $(DEFINITIONS)/check.log
+
+# Edits of the definitions that the theorems must refuse.
+edits:
+	tests/edits/run
 
 # More generated inputs: make soak SEED=7 COUNT=1000000
 soak:
