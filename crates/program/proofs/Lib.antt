@@ -1,0 +1,13 @@
+pub mod Results
+pub mod Fields
+pub mod Arithmetic
+pub mod Operands
+pub mod Expressions
+pub mod Tokens
+pub mod Ends
+pub mod Transitions
+pub mod Headers
+pub mod Loops
+pub mod Reading
+pub mod Programs
+pub mod Layouts

@@ -1,0 +1,129 @@
+-- The loop over the transitions. After i turns the first i entries are the first i starts, the others are still 0, and what is left to read is the
+-- other transitions from the present place on: so what is found in the end is those entries followed by the starts of the rest.
+use Prim.Native.Nat.{ℕ, suc, _+_, _-_, _≤_, _<_}
+use mathlib.Core.Path.{_≡_, refl, sym, _∙_}
+use mathlib.Core.List.{List, [], _∷_, _++_, append-assoc, append-nil}
+use native.Mathlib.Omega.{arith}
+use native.Mathlib.Numerals.{add-one}
+use lib.ListN.{length, take, drop, set, getD, replicate, length-set, take-append-drop}
+use lib.Seq.{drop-cons, drop-set-lt, take-suc-set, length-take-le}
+use Rattle.model.specs.declared.Header.{Header}
+use Rattle.model.specs.declared.Refusal.{Refusal}
+use Rattle.model.specs.Limits.{maxTransitions}
+use Rattle.model.specs.Refusals as Refusals
+use Rattle.model.specs.Refusals.{Result, ok, refused}
+use Rattle.model.specs.Bytes.{Found, Reader, found, times}
+use Rattle.model.specs.Programs.{Transition, readTransition}
+use Rattle.program.specs.declared.transition.End as End
+use Rattle.program.specs.declared.transition.End.{End}
+use Rattle.program.specs.Ends.{endOf}
+use Rattle.program.specs.Starts.{none, padded, startOf, transitionsOf}
+use Rattle.program.proofs.Ends.{end-found, end-refused}
+
+-- What was passed stands before what is found after it.
+abbrev after : List ℕ → Result (Found (List ℕ)) → Result (Found (List ℕ))
+after passed m = Refusals._>>=_ m (λ f. found (passed ++ f .value) (f .next))
+
+after-none : (m : Result (Found (List ℕ))) → after [] m ≡ m
+after-none (ok f) = refl
+after-none (refused r) = refl
+
+after-one : (passed : List ℕ) (a : ℕ) (m : Result (Found (List ℕ))) →
+    after passed (Refusals._>>=_ m (λ f. found (a ∷ f .value) (f .next))) ≡ after (passed ++ (a ∷ [])) m
+after-one passed a (ok f) = rw append-assoc
+after-one passed a (refused r) = refl
+
+-- One start more.
+pub start-found : (header : Header) (bytes : List ℕ) (at : ℕ) {t : Transition} {n : ℕ} →
+    readTransition header bytes at ≡ found t n → startOf header bytes at ≡ found at n
+unfolding startOf
+start-found header bytes at h = rw h
+
+pub start-refused : (header : Header) (bytes : List ℕ) (at : ℕ) {r : Refusal} →
+    readTransition header bytes at ≡ refused r → startOf header bytes at ≡ refused r
+unfolding startOf
+start-refused header bytes at h = rw h
+
+pub times-more : {A : Type 0} (n : ℕ) (read : Reader A) (bytes : List ℕ) (at : ℕ) →
+    times (suc n) read bytes at
+    ≡ Refusals._>>=_ (read bytes at) (λ a. Refusals._>>=_ (times n read bytes (a .next)) (λ rest. found (a .value ∷ rest .value) (rest .next)))
+unfolding times
+times-more n read bytes at = refl
+
+pub times-none : {A : Type 0} (read : Reader A) (bytes : List ℕ) (at : ℕ) → times 0 read bytes at ≡ found [] at
+unfolding times
+times-none read bytes at = refl
+
+-- The starts with zeros after them are all the entries.
+filled : (starts : List ℕ) (i : ℕ) → i ≤ length starts → drop i starts ≡ replicate (maxTransitions - i) 0 → padded (take i starts ++ []) ≡ starts
+filled starts i h d = rw (append-nil, length-take-le i starts h, ← d) (take-append-drop i starts)
+
+-- After i turns.
+pub record Passed (header : Header) (bytes : List ℕ) (at : ℕ) (starts : List ℕ) (place i : ℕ) : Type 0 where
+  pub within : i ≤ header .transitions
+  pub sized : length starts ≡ maxTransitions
+  pub unset : drop i starts ≡ replicate (maxTransitions - i) 0
+  pub same : times (header .transitions) (startOf header) bytes at
+      ≡ after (take i starts) (times (header .transitions - i) (startOf header) bytes place)
+
+pub passed-none : (header : Header) (bytes : List ℕ) (at : ℕ) → Passed header bytes at none at 0
+passed-none header bytes at = record {
+  within = omega arith;
+  sized = refl;
+  unset = refl;
+  same =
+      let e : header .transitions - 0 ≡ header .transitions = omega arith in
+      rw e (sym (after-none (times (header .transitions) (startOf header) bytes at)));
+}
+
+module _ {header : Header} {bytes : List ℕ} {at : ℕ} {starts : List ℕ} {place i : ℕ} (p : Passed header bytes at starts place i)
+    (limit : header .transitions ≤ maxTransitions) where
+  -- What is left, one transition at a time.
+  one-more : i < header .transitions →
+      times (header .transitions) (startOf header) bytes at
+      ≡ after (take i starts)
+      (Refusals._>>=_ (startOf header bytes place)
+      (λ a. Refusals._>>=_ (times (header .transitions - (i + 1)) (startOf header) bytes (a .next))
+      (λ rest. found (a .value ∷ rest .value) (rest .next))))
+  one-more h =
+      let e : header .transitions - i ≡ suc (header .transitions - (i + 1)) = omega arith in
+      p .same ∙ rw (e, times-more)
+
+  still-unset : i < header .transitions → drop (i + 1) (set starts i place) ≡ replicate (maxTransitions - (i + 1)) 0
+  still-unset h =
+      let s : i < length starts = omega (arith, p .sized) in
+      let e : maxTransitions - i ≡ suc (maxTransitions - suc i) = omega arith in
+      let d : getD starts i 0 ∷ drop (suc i) starts ≡ 0 ∷ replicate (maxTransitions - suc i) 0 =
+      sym (drop-cons starts i 0 s) ∙ rw e at (p .unset) in
+      rw (add-one i, drop-set-lt (suc i) starts i place (omega arith)) (cc)
+
+  pub passed-more : i < header .transitions → {x : End} → x ≡ endOf (readTransition header bytes place) →
+      {next : ℕ} → x ≡ End.the-variants.At next → Passed header bytes at (set starts i place) next (i + 1)
+  passed-more h {x} e {next} q =
+      let s : i < length starts = omega (arith, p .sized) in
+      record {
+        within = omega arith;
+        sized = length-set starts i place ∙ p .sized;
+        unset = still-unset h;
+        same =
+            let (t, m) = end-found (readTransition header bytes place) e q in
+            one-more h
+            ∙ rw (
+              start-found header bytes place m,
+              after-one (take i starts) place (times (header .transitions - (i + 1)) (startOf header) bytes next),
+              add-one i,
+              take-suc-set starts i place s,
+            );
+      }
+
+  pub passed-refused : i < header .transitions → {x : End} → x ≡ endOf (readTransition header bytes place) →
+      {r : Refusal} → x ≡ End.the-variants.Refused r →
+      record { end = x; starts = none } ≡ transitionsOf (times (header .transitions) (startOf header) bytes at)
+  passed-refused h {x} e q =
+      rw (one-more h, start-refused header bytes place (end-refused (readTransition header bytes place) e q), q)
+
+  pub passed-all : header .transitions ≤ i →
+      record { end = End.the-variants.At place; starts = starts } ≡ transitionsOf (times (header .transitions) (startOf header) bytes at)
+  passed-all h =
+      let z : header .transitions - i ≡ 0 = omega arith in
+      rw (p .same, z, times-none, filled starts i (omega (arith, p .sized, p .within)) (p .unset))

@@ -1,0 +1,4 @@
+pub mod Fields
+pub mod Values
+pub mod Ends
+pub mod Starts

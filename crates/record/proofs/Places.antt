@@ -1,0 +1,187 @@
+-- A record that was read is its items, one after the other. Reading so many items and then the end is read from the front: after an item that was
+-- found, one less from the next place. Hence the items stand from place 2 to the end, and whoever reads the item at the place where the one before it
+-- ended reads the record's items again.
+use Prim.Native.Nat.{ℕ, zero, suc, _-_, _<_}
+use mathlib.Core.Path.{_≡_, refl, sym, ap, subst, _∙_}
+use mathlib.Core.List.{List, [], _∷_}
+use native.Mathlib.Nat.{not-suc-le-zero}
+use native.Mathlib.Omega.{arith}
+use lib.Dec.{eqb, leb}
+use lib.ListN.{length}
+use borrow.Author.Tests.{eq-eqb, ne-eqb, eqb-true, le-leb, leb-true}
+use Rattle.model.specs.declared.Header.{Header}
+use Rattle.model.specs.declared.Item.{Item}
+use Rattle.model.specs.declared.Refusal.{Refusal}
+use Rattle.model.specs.Limits.{maxItems}
+use Rattle.model.specs.Refusals as Refusals
+use Rattle.model.specs.Refusals.{Result, ok, refused, refuse, recordLength, recordRange}
+use Rattle.model.specs.Choice.{when}
+use Rattle.model.specs.Bytes.{Found, Reader, found, word, judged, times}
+use Rattle.model.specs.Records.{readItem, readRecord}
+use Rattle.model.proofs.Laws.{refused≢ok, ok-injective, bind-ok, decided, eqb-refl}
+use Rattle.program.proofs.Fields.{judged-passes}
+use Rattle.record.specs.declared.item.ItemRead as ItemRead
+use Rattle.record.specs.declared.item.ItemRead.{ItemRead}
+use Rattle.record.specs.declared.reader.RecordRead as RecordRead
+use Rattle.record.specs.declared.reader.RecordRead.{RecordRead}
+use Rattle.record.specs.Items.{itemRead}
+use Rattle.record.specs.Places.{ItemsFrom, ended, then, Recorded, itemsToEnd, counted, recordRead}
+use Rattle.record.proofs.Read.{judged-ok, word-next}
+
+-- The items from a place, one at a time.
+module _ (header : Header) (bytes : List ℕ) (at : ℕ) where
+  pub none-left : (count : ℕ) → at ≡ length bytes → RecordRead.the-variants.Readable count ≡ counted count (itemsToEnd header 0 bytes at)
+  unfolding itemsToEnd times
+  none-left count p = rw (eq-eqb at (length bytes) p)
+
+  pub bytes-left : (count : ℕ) → (at ≡ length bytes → ⊥) →
+      RecordRead.the-variants.Refused (record { number = recordLength; place = at }) ≡ counted count (itemsToEnd header 0 bytes at)
+  unfolding itemsToEnd times
+  bytes-left count n = rw (ne-eqb at (length bytes) n)
+
+  pub item-fails : (left : ℕ) {r : Refusal} → 0 < left → readItem header bytes at ≡ refused r → itemsToEnd header left bytes at ≡ refused r
+  unfolding itemsToEnd times
+  item-fails zero h e = absurd (not-suc-le-zero h)
+  item-fails (suc n) h e = rw e
+
+-- Prepending an item changes neither where the items end nor whether they do.
+counts-on : (count : ℕ) (bytes : List ℕ) (item : Item) (m : Result (Found (List Item))) →
+    counted count
+    (Refusals._>>=_ (Refusals._>>=_ m (λ f. found (item ∷ f .value) (f .next)))
+    (λ f. when (eqb (f .next) (length bytes)) (λ _. ok (f .value)) (λ _. refuse recordLength (f .next))))
+    ≡ counted count (Refusals._>>=_ m (λ f. when (eqb (f .next) (length bytes)) (λ _. ok (f .value)) (λ _. refuse recordLength (f .next))))
+counts-on count bytes item (ok f) = decided (eqb (f .next) (length bytes)) (λ t. rw t) (λ t. rw t)
+counts-on count bytes item (refused r) = refl
+
+pub item-read : (header : Header) (bytes : List ℕ) (at count left : ℕ) {item : Item} {next : ℕ} → 0 < left →
+    readItem header bytes at ≡ found item next →
+    counted count (itemsToEnd header left bytes at) ≡ counted count (itemsToEnd header (left - 1) bytes next)
+unfolding itemsToEnd times
+item-read header bytes at count zero h e = absurd (not-suc-le-zero h)
+item-read header bytes at count (suc n) {item} {next} h e =
+    let d : suc n - 1 ≡ n = omega arith in
+    rw (e, d) (counts-on count bytes item (times n (readItem header) bytes next))
+
+-- The definition of the whole record, with the end looked at behind the items.
+bind-bind : {A B C : Type 0} (m : Result A) (f : A → Result B) (g : B → Result C) →
+    Refusals._>>=_ (Refusals._>>=_ m f) g ≡ Refusals._>>=_ m (λ a. Refusals._>>=_ (f a) g)
+bind-bind (ok a) f g = refl
+bind-bind (refused r) f g = refl
+
+pub readRecord-is : (header : Header) (bytes : List ℕ) →
+    readRecord header bytes
+    ≡ Refusals._>>=_ (judged (λ n. leb n maxItems) recordRange (word recordLength) bytes 0) (λ f. itemsToEnd header (f .value) bytes (f .next))
+unfolding readRecord itemsToEnd
+readRecord-is header bytes =
+    bind-bind
+    (judged (λ n. leb n maxItems) recordRange (word recordLength) bytes 0)
+    (λ f. times (f .value) (readItem header) bytes (f .next))
+    (λ f. when (eqb (f .next) (length bytes)) (λ _. ok (f .value)) (λ _. refuse recordLength (f .next)))
+
+-- Items that reach the end.
+ends : (bytes : List ℕ) (m : Result (Found (List Item))) {items : List Item} →
+    Refusals._>>=_ m (λ f. when (eqb (f .next) (length bytes)) (λ _. ok (f .value)) (λ _. refuse recordLength (f .next))) ≡ ok items →
+    m ≡ found items (length bytes)
+ends bytes (ok f) {items} h =
+    decided (eqb (f .next) (length bytes))
+    (λ t.
+    let v : f .value ≡ items = ok-injective (rw t at h) in
+    let n : f .next ≡ length bytes = eqb-true (f .next) (length bytes) t in
+    rw (← v, ← n))
+    (λ t. absurd (refused≢ok (rw t at h)))
+ends bytes (refused r) h = absurd (refused≢ok h)
+
+to-end : (header : Header) (count : ℕ) (bytes : List ℕ) (at : ℕ) {items : List Item} → itemsToEnd header count bytes at ≡ ok items →
+    times count (readItem header) bytes at ≡ found items (length bytes)
+unfolding itemsToEnd
+to-end header count bytes at h = ends bytes (times count (readItem header) bytes at) h
+
+-- So many were asked for, so many were read.
+times-length : {A : Type 0} (n : ℕ) (read : Reader A) (bytes : List ℕ) (at : ℕ) {f : Found (List A)} → times n read bytes at ≡ ok f →
+    length (f .value) ≡ n
+unfolding times
+times-length {A} zero read bytes at h = ap (λ (f : Found (List A)). length (f .value)) (sym (ok-injective h))
+times-length {A} (suc n) read bytes at h =
+    let (a, ea, h₁) = bind-ok (read bytes at) _ h in
+    let (rest, er, h₂) = bind-ok (times n read bytes (a .next)) _ h₁ in
+    ap (λ (f : Found (List A)). length (f .value)) (sym (ok-injective h₂)) ∙ ap suc (times-length n read bytes (a .next) er)
+
+counts : (n : ℕ) (m : Result (List Item)) → ((items : List Item) → m ≡ ok items → length items ≡ n) → counted n m ≡ recordRead m
+counts n (ok items) h = rw (h items refl)
+counts n (refused r) h = refl
+
+pub counted-is : (header : Header) (count : ℕ) (bytes : List ℕ) (at : ℕ) →
+    counted count (itemsToEnd header count bytes at) ≡ recordRead (itemsToEnd header count bytes at)
+counted-is header count bytes at =
+    counts count (itemsToEnd header count bytes at) (λ items h. times-length count (readItem header) bytes at (to-end header count bytes at h))
+
+-- The items that were read stand one after the other.
+times-from : (header : Header) (bytes : List ℕ) (n at : ℕ) {f : Found (List Item)} → times n (readItem header) bytes at ≡ ok f →
+    f .next ≡ length bytes → ItemsFrom header bytes at (f .value)
+unfolding times
+times-from header bytes zero at h =
+    subst (λ (f : Found (List Item)). f .next ≡ length bytes → ItemsFrom header bytes at (f .value)) (ok-injective h) (λ p. ended p)
+times-from header bytes (suc n) at h =
+    let (a, ea, h₁) = bind-ok (readItem header bytes at) _ h in
+    let (rest, er, h₂) = bind-ok (times n (readItem header) bytes (a .next)) _ h₁ in
+    subst (λ (f : Found (List Item)). f .next ≡ length bytes → ItemsFrom header bytes at (f .value)) (ok-injective h₂)
+    (λ p. then ea (times-from header bytes n (a .next) er p))
+
+from-times : {header : Header} {bytes : List ℕ} {at : ℕ} {items : List Item} → ItemsFrom header bytes at items →
+    times (length items) (readItem header) bytes at ≡ found items (length bytes)
+unfolding times
+from-times (ended p) = ap (λ n. found [] n) p
+from-times (then e rest) = rw (e, from-times rest)
+
+-- A record was read exactly if it is one, as the paper describes it.
+pub record-items : (header : Header) (bytes : List ℕ) {items : List Item} → readRecord header bytes ≡ ok items → Recorded header bytes items
+record-items header bytes {items} h =
+    let (f, ef, h₁) = bind-ok (judged (λ n. leb n maxItems) recordRange (word recordLength) bytes 0) _ (rw readRecord-is at h) in
+    let (ew, t) = judged-ok (λ n. leb n maxItems) recordRange (word recordLength) bytes 0 ef in
+    let e = to-end header (f .value) bytes (f .next) h₁ in
+    let l : length items ≡ f .value = times-length (f .value) (readItem header) bytes (f .next) e in
+    let n : f .next ≡ 2 = word-next recordLength bytes 0 ew in
+    record {
+      count = rw (l, ← n) ew;
+      limit = rw l (leb-true (f .value) maxItems t);
+      items-from = rw n at (times-from header bytes (f .value) (f .next) e refl);
+    }
+
+pub items-record : {header : Header} {bytes : List ℕ} {items : List Item} → Recorded header bytes items → readRecord header bytes ≡ ok items
+unfolding itemsToEnd
+items-record {header} {bytes} {items} r =
+    rw (
+      readRecord-is,
+      judged-passes (λ n. leb n maxItems) recordRange (word recordLength) bytes 0 (r .count) (le-leb (length items) maxItems (r .limit)),
+      from-times (r .items-from),
+      eqb-refl (length bytes),
+    )
+
+-- What the record reader's answer says of the definition.
+readable : {count : ℕ} (m : Result (List Item)) → RecordRead.the-variants.Readable count ≡ recordRead m →
+    (items : List Item) × (m ≡ ok items) × (length items ≡ count)
+readable {count} (ok items) h = (items, refl, cc)
+readable {count} (refused r) h = let z : _≡_ {A = ℕ} 0 1 = cc in absurd (omega arith)
+
+pub readable-items : (header : Header) (bytes : List ℕ) {count : ℕ} → RecordRead.the-variants.Readable count ≡ recordRead (readRecord header bytes) →
+    (items : List Item) × (readRecord header bytes ≡ ok items) × (length items ≡ count)
+readable-items header bytes h = readable (readRecord header bytes) h
+
+-- The replay's decoder: while items are left, reading at the place gives the first of them, and the others stand from the next place.
+pub record Decoded (header : Header) (bytes : List ℕ) (items : List Item) (answer : ItemRead) : Type 0 where
+  pub item : Item
+  pub rest : List Item
+  pub next : ℕ
+  pub items-are : items ≡ item ∷ rest
+  pub answer-is : answer ≡ ItemRead.the-variants.Read item next
+  pub rest-from : ItemsFrom header bytes next rest
+
+pub decoded : {header : Header} {bytes : List ℕ} {at : ℕ} {items : List Item} {answer : ItemRead} → ItemsFrom header bytes at items →
+    0 < length items → answer ≡ itemRead (readItem header bytes at) → Decoded header bytes items answer
+decoded (ended p) h q = absurd (not-suc-le-zero h)
+decoded (then {next = next} {item = item} {items = rest} e from) h q =
+    record { item = item; rest = rest; next = next; items-are = refl; answer-is = q ∙ ap itemRead e; rest-from = from }
+
+-- After the last item comes the end.
+pub at-end : {header : Header} {bytes : List ℕ} {at : ℕ} → ItemsFrom header bytes at [] → at ≡ length bytes
+at-end (ended p) = p

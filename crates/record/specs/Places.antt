@@ -1,0 +1,48 @@
+-- The items of a record and their places: one after the other from place 2, the last one ending where the bytes end.
+use Prim.Native.Nat.{ℕ, _≤_, _<_}
+use mathlib.Core.Path.{_≡_}
+use mathlib.Core.List.{List, [], _∷_}
+use lib.Dec.{eqb}
+use lib.ListN.{length, getD}
+use Rattle.model.specs.declared.Header.{Header}
+use Rattle.model.specs.declared.Item.{Item}
+use Rattle.model.specs.Limits.{maxItems}
+use Rattle.model.specs.Refusals as Refusals
+use Rattle.model.specs.Refusals.{Result, ok, refused, refuse, recordLength}
+use Rattle.model.specs.Choice.{when}
+use Rattle.model.specs.Bytes.{found, word, times}
+use Rattle.model.specs.Records.{readItem}
+use Rattle.record.specs.declared.reader.RecordRead as RecordRead
+use Rattle.record.specs.declared.reader.RecordRead.{RecordRead}
+
+-- These items, read one after the other from a place to the end of the bytes.
+pub data ItemsFrom (header : Header) (bytes : List ℕ) : ℕ → List Item → Type 0 where
+  ended : {at : ℕ} → at ≡ length bytes → ItemsFrom header bytes at []
+  then : {at next : ℕ} {item : Item} {items : List Item} →
+      readItem header bytes at ≡ found item next → ItemsFrom header bytes next items → ItemsFrom header bytes at (item ∷ items)
+
+-- A readable record: the item count within its limit, and so many items behind it, up to the end.
+pub record Recorded (header : Header) (bytes : List ℕ) (items : List Item) : Type 0 where
+  pub count : word recordLength bytes 0 ≡ found (length items) 2
+  pub limit : length items ≤ maxItems
+  pub items-from : ItemsFrom header bytes 2 items
+
+-- What a slice of bytes holds.
+abbrev pub AreBytes : List ℕ → Type 0
+AreBytes bytes = (i : ℕ) → getD bytes i 0 < 256
+
+-- So many items from a place, which have to reach the end of the bytes.
+unfoldable pub itemsToEnd : Header → (count : ℕ) → List ℕ → (at : ℕ) → Result (List Item)
+itemsToEnd header count bytes at =
+    Refusals._>>=_ (times count (readItem header) bytes at)
+    (λ f. when (eqb (f .next) (length bytes)) (λ _. ok (f .value)) (λ _. refuse recordLength (f .next)))
+
+-- An answer that gives this count where the items could be read.
+abbrev pub counted : (count : ℕ) → Result (List Item) → RecordRead
+counted count (ok items) = RecordRead.the-variants.Readable count
+counted count (refused r) = RecordRead.the-variants.Refused r
+
+-- What the record reader answers, from what the definition reads: the count of the items, or the refusal.
+abbrev pub recordRead : Result (List Item) → RecordRead
+recordRead (ok items) = RecordRead.the-variants.Readable (length items)
+recordRead (refused r) = RecordRead.the-variants.Refused r
