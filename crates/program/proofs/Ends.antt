@@ -30,6 +30,7 @@ use Rattle.program.specs.Ends.{endOf, optionMap, readForm, readMap}
 use Rattle.program.proofs.Fields.{byte-told, byte-next}
 use Rattle.program.proofs.Tokens.{value-found, value-refused}
 
+-- What an end tells of what was read.
 pub end-found : {A : Type 0} (m : Result (Found A)) {x : End} {n : ℕ} →
     x ≡ endOf m → x ≡ End.the-variants.At n → (a : A) × (m ≡ found a n)
 end-found (ok f) {x} {n} p q = let d : n ≡ f .next = cc in (f .value, rw d)

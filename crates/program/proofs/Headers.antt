@@ -1,6 +1,6 @@
 -- The header, number by number: the first that is refused refuses it, and six that are found are the header.
 use Prim.Native.Nat.{ℕ, _≤_, _<_}
-use mathlib.Core.Path.{_≡_, refl, ap, sym, _∙_}
+use mathlib.Core.Path.{_≡_, refl, subst, sym, _∙_}
 use mathlib.Core.Bool.{true, false}
 use mathlib.Core.List.{List}
 use lib.Dec.{leb}
@@ -102,21 +102,37 @@ module _ (bytes : List ℕ) where
             header-found h = rw (m₁, m₂, m₃, m₄, m₅, h)
 
 -- A header number that was found is in its range.
-pub number-bound : (low high : ℕ) (bytes : List ℕ) (at : ℕ) {v n : ℕ} → headerNumber low high bytes at ≡ found v n → v ≤ high
-number-bound low high bytes at {v} h =
-    leb-true v high
-    (and-true (leb low v) (leb v high)
-    (judged-passed (between low high) programRange (byte programLength) bytes at (sym (number-is low high bytes at) ∙ h)) .1)
+number-bounds : (low high : ℕ) (bytes : List ℕ) (at : ℕ) {v n : ℕ} → headerNumber low high bytes at ≡ found v n → (low ≤ v) × (v ≤ high)
+number-bounds low high bytes at {v} h =
+    let (l, u) =
+    and-true (leb low v) (leb v high)
+    (judged-passed (between low high) programRange (byte programLength) bytes at (sym (number-is low high bytes at) ∙ h)) in
+    (leb-true low v l, leb-true v high u)
 
--- So there are never more transitions than the limit.
-pub transitions-bound : (bytes : List ℕ) (at : ℕ) {header : Header} {n : ℕ} → readHeader bytes at ≡ found header n → header .transitions ≤ maxTransitions
+-- The ranges of a header that was read.
+pub record Bounded (header : Header) : Type 0 where
+  pub ranks : (1 ≤ header .ranks) × (header .ranks ≤ maxRanks)
+  pub cells : (1 ≤ header .cells) × (header .cells ≤ maxCells)
+  pub registers : (1 ≤ header .registers) × (header .registers ≤ maxRegisters)
+  pub queues : (1 ≤ header .queues) × (header .queues ≤ maxQueues)
+  pub states : (1 ≤ header .states) × (header .states ≤ maxStates)
+  pub transitions : header .transitions ≤ maxTransitions
+
+pub header-bounded : (bytes : List ℕ) (at : ℕ) {header : Header} {n : ℕ} → readHeader bytes at ≡ found header n → Bounded header
 unfolding readHeader
-transitions-bound bytes at h =
+header-bounded bytes at h =
     let (n, m₁, h₁) = bind-ok (headerNumber 1 maxRanks bytes at) _ h in
     let (a, m₂, h₂) = bind-ok (headerNumber 1 maxCells bytes (n .next)) _ h₁ in
     let (r, m₃, h₃) = bind-ok (headerNumber 1 maxRegisters bytes (a .next)) _ h₂ in
     let (q, m₄, h₄) = bind-ok (headerNumber 1 maxQueues bytes (r .next)) _ h₃ in
     let (s, m₅, h₅) = bind-ok (headerNumber 1 maxStates bytes (q .next)) _ h₄ in
     let (t, m₆, h₆) = bind-ok (headerNumber 0 maxTransitions bytes (s .next)) _ h₅ in
-    rw (sym (ap (λ (f : Found Header). f .value .transitions) (ok-injective h₆)))
-    (number-bound 0 maxTransitions bytes (s .next) {v = t .value} {n = t .next} m₆)
+    subst (λ (f : Found Header). Bounded (f .value)) (ok-injective h₆)
+    (record {
+      ranks = number-bounds 1 maxRanks bytes at {v = n .value} {n = n .next} m₁;
+      cells = number-bounds 1 maxCells bytes (n .next) {v = a .value} {n = a .next} m₂;
+      registers = number-bounds 1 maxRegisters bytes (a .next) {v = r .value} {n = r .next} m₃;
+      queues = number-bounds 1 maxQueues bytes (r .next) {v = q .value} {n = q .next} m₄;
+      states = number-bounds 1 maxStates bytes (q .next) {v = s .value} {n = s .next} m₅;
+      transitions = number-bounds 0 maxTransitions bytes (s .next) {v = t .value} {n = t .next} m₆ .1;
+    })

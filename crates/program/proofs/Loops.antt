@@ -17,7 +17,7 @@ use Rattle.model.specs.Programs.{Transition, readTransition}
 use Rattle.program.specs.declared.transition.End as End
 use Rattle.program.specs.declared.transition.End.{End}
 use Rattle.program.specs.Ends.{endOf}
-use Rattle.program.specs.Starts.{none, padded, startOf, transitionsOf}
+use Rattle.program.specs.Starts.{noStarts, padded, startOf, transitionsOf}
 use Rattle.program.proofs.Ends.{end-found, end-refused}
 
 -- What was passed stands before what is found after it.
@@ -66,7 +66,7 @@ pub record Passed (header : Header) (bytes : List ℕ) (at : ℕ) (starts : List
   pub same : times (header .transitions) (startOf header) bytes at
       ≡ after (take i starts) (times (header .transitions - i) (startOf header) bytes place)
 
-pub passed-none : (header : Header) (bytes : List ℕ) (at : ℕ) → Passed header bytes at none at 0
+pub passed-none : (header : Header) (bytes : List ℕ) (at : ℕ) → Passed header bytes at noStarts at 0
 passed-none header bytes at = record {
   within = omega arith;
   sized = refl;
@@ -118,7 +118,7 @@ module _ {header : Header} {bytes : List ℕ} {at : ℕ} {starts : List ℕ} {pl
 
   pub passed-refused : i < header .transitions → {x : End} → x ≡ endOf (readTransition header bytes place) →
       {r : Refusal} → x ≡ End.the-variants.Refused r →
-      record { end = x; starts = none } ≡ transitionsOf (times (header .transitions) (startOf header) bytes at)
+      record { end = x; starts = noStarts } ≡ transitionsOf (times (header .transitions) (startOf header) bytes at)
   passed-refused h {x} e q =
       rw (one-more h, start-refused header bytes place (end-refused (readTransition header bytes place) e q), q)
 

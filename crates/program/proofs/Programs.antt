@@ -22,6 +22,7 @@ use Rattle.program.specs.declared.reader.ReadAnswer.{ReadAnswer}
 use Rattle.program.specs.declared.reader.ProgramRead.{ProgramRead}
 use Rattle.program.specs.Starts.{Starts, entries, padded, programRead, readAnswer, readStarts, startOf}
 use Rattle.program.proofs.Results.{bind-assoc}
+use Rattle.program.proofs.Headers.{Bounded, header-bounded}
 use Rattle.program.proofs.Loops.{start-found, start-refused, times-more, times-none}
 
 -- Transitions that stand one after the other from a place to an end, each at its start.
@@ -96,6 +97,7 @@ module _ (header : Header) (bytes : List ℕ) where
 -- The program that was read, beside the starts: the same header, and its transitions from some place to the last byte.
 pub record Matching (bytes : List ℕ) (s : Starts) (p : Program) : Type 0 where
   pub header : p .header ≡ s .header
+  pub bounded : Bounded (s .header)
   pub count : length (s .starts) ≡ s .header .transitions
   pub first : ℕ
   pub standing : Standing (s .header) bytes first (s .starts) (p .transitions) (length bytes)
@@ -113,18 +115,18 @@ reach bytes make m =
     Refusals._>>=_ m (λ f. when (eqb (f .next) (length bytes)) (λ _. ok (make (f .value))) (λ _. refuse programLength (f .next)))
 
 module _ (header : Header) (bytes : List ℕ) (at : ℕ) where
-  together-ends : (s : Result (Found (List ℕ))) (t : Result (Found (List Transition))) → Alike header bytes (header .transitions) at s t →
+  together-ends : Bounded header → (s : Result (Found (List ℕ))) (t : Result (Found (List Transition))) → Alike header bytes (header .transitions) at s t →
       Together bytes
       (reach bytes (λ starts. record { header = header; starts = starts }) s)
       (reach bytes (λ transitions. record { header = header; transitions = transitions }) t)
-  together-ends (ok s) (ok t) a =
+  together-ends b (ok s) (ok t) a =
       rw (a .0)
       (decided (eqb (t .next) (length bytes))
-      (λ e. rw e (record { header = refl; count = a .1; first = at; standing = rw (← eqb-true (t .next) (length bytes) e) (a .2) }))
+      (λ e. rw e (record { header = refl; bounded = b; count = a .1; first = at; standing = rw (← eqb-true (t .next) (length bytes) e) (a .2) }))
       (λ e. rw e refl))
-  together-ends (refused r) (refused r′) a = a
-  together-ends (ok s) (refused r) a = absurd a
-  together-ends (refused r) (ok t) a = absurd a
+  together-ends b (refused r) (refused r′) a = a
+  together-ends b (ok s) (refused r) a = absurd a
+  together-ends b (refused r) (ok t) a = absurd a
 
   module _ (h : readHeader bytes 0 ≡ found header at) where
     starts-reach : readStarts bytes
@@ -146,7 +148,7 @@ module _ (bytes : List ℕ) where
   together-after : (m : Result (Found Header)) → readHeader bytes 0 ≡ m → Together bytes (readStarts bytes) (readProgram bytes)
   together-after (ok f) h =
       rw (starts-reach (f .value) bytes (f .next) h, program-reach (f .value) bytes (f .next) h)
-      (together-ends (f .value) bytes (f .next)
+      (together-ends (f .value) bytes (f .next) (header-bounded bytes 0 h)
       (times (f .value .transitions) (startOf (f .value)) bytes (f .next))
       (times (f .value .transitions) (readTransition (f .value)) bytes (f .next))
       (alike-times (f .value) bytes (f .value .transitions) (f .next)))
@@ -162,6 +164,7 @@ endAt bytes header starts i = when (ltb (i + 1) (header .transitions)) (λ _. ge
 -- A program beside the entries that the reader filled.
 pub record Placed (bytes : List ℕ) (header : Header) (starts : List ℕ) (p : Program) : Type 0 where
   pub same : p .header ≡ header
+  pub bounded : Bounded header
   pub count : length (p .transitions) ≡ header .transitions
   pub transition : (i : ℕ) → i < header .transitions →
       (t : Transition) × (getElem? (p .transitions) i ≡ some t)
@@ -188,6 +191,7 @@ module _ (bytes : List ℕ) (s : Starts) (p : Program) (m : Matching bytes s p) 
   placed : Placed bytes (s .header) (padded (s .starts)) p
   placed = record {
     same = m .header;
+    bounded = m .bounded;
     count = sym (standing-length (s .header) bytes (m .first) (s .starts) (p .transitions) (length bytes) (m .standing)) ∙ m .count;
     transition = λ i h.
         let (t, g, r) =

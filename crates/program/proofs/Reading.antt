@@ -29,7 +29,7 @@ use Rattle.program.specs.Starts.{
   transitionsOf,
 }
 use Rattle.program.proofs.Results.{told}
-use Rattle.program.proofs.Headers.{transitions-bound}
+use Rattle.program.proofs.Headers.{header-bounded}
 
 -- What the answers tell.
 abbrev headerResult : HeaderRead → Result (Found Header)
@@ -66,7 +66,7 @@ module _ (bytes : List ℕ) {x : HeaderRead} (p : x ≡ headerRead (readHeader b
 
   module _ {header : Header} {next : ℕ} (q : x ≡ HeaderRead.the-variants.Read header next) where
     pub few-transitions : header .transitions ≤ maxTransitions
-    few-transitions = transitions-bound bytes 0 (header-told (readHeader bytes 0) p q)
+    few-transitions = header-bounded bytes 0 (header-told (readHeader bytes 0) p q) .transitions
 
     module _ {y : Transitions} (p₁ : y ≡ transitionsOf (times (header .transitions) (startOf header) bytes next)) where
       pub no-transition : {r : Refusal} → y .end ≡ End.the-variants.Refused r →

@@ -5,6 +5,7 @@ use mathlib.Core.List.{List}
 use native.Mathlib.Omega.{arith}
 use lib.Dec.{ltb}
 use borrow.Author.Tests.{ltb-true}
+use Rattle.model.specs.declared.Header.{Header}
 use Rattle.model.specs.declared.Refusal.{Refusal}
 use Rattle.model.specs.Limits.{maxTokens}
 use Rattle.model.specs.Refusals.{Result, ok, refused, programLength, programForm}
@@ -22,7 +23,7 @@ use Rattle.program.specs.declared.expression.Token.{Token}
 use Rattle.program.specs.declared.expression.Evaluated as Evaluated
 use Rattle.program.specs.declared.expression.Evaluated.{Evaluated}
 use Rattle.program.specs.Fields.{byteField, byteRefusal}
-use Rattle.program.specs.Values.{optionToken, operandToken, operatorOf, registerOf, evaluated, tokenByte, wordValue}
+use Rattle.program.specs.Values.{optionToken, operandToken, operatorOf, registerOf, evaluated, expressionValue, tokenByte, wordValue}
 use Rattle.program.proofs.Fields.{byte-told, judged-passed}
 use Rattle.program.proofs.Expressions.{expression-falls, same-depth, by-token}
 
@@ -142,3 +143,9 @@ module _ (ranks rank : ℕ) (values : List ℕ) where
       w ≡ wordValue ranks rank values m → w ≡ Word.the-variants.Refused r → m ≡ refused r
   value-refused (ok f) p q = cc
   value-refused (refused r) p q = cc
+
+-- Where an expression is known to stand, the answer is its value and its end: no refusal is left.
+pub value-at : (header : Header) (rank : ℕ) (values bytes : List ℕ) (at : ℕ) {e : Expression} {n : ℕ} →
+    expression (header .registers) bytes at ≡ found e n →
+    expressionValue header rank values bytes at ≡ Word.the-variants.Read (evaluate (header .ranks) rank (registerOf values) e) n
+value-at header rank values bytes at h = rw h

@@ -12,6 +12,7 @@ use Rattle.program.specs.declared.transition.End.{End}
 use Rattle.program.specs.declared.transition.Form as Form
 use Rattle.program.specs.declared.transition.Form.{Form}
 
+-- The place after what was found, or the refusal.
 abbrev pub endOf : {A : Type 0} → Result (Found A) → End
 endOf (ok f) = End.the-variants.At (f .next)
 endOf (refused r) = End.the-variants.Refused r

@@ -8,6 +8,7 @@ use Rattle.program.specs.declared.bytes.Byte.{Byte}
 use Rattle.program.specs.declared.bytes.Word as Word
 use Rattle.program.specs.declared.bytes.Word.{Word}
 
+-- A field's answer: the number and the place after it, or the refusal; of one byte and of two.
 abbrev pub byteField : Result (Found ℕ) → Byte
 byteField (ok f) = Byte.the-variants.Read (f .value) (f .next)
 byteField (refused r) = Byte.the-variants.Refused r

@@ -16,6 +16,7 @@ use Rattle.program.specs.declared.reader.ReadAnswer.{ReadAnswer}
 use Rattle.program.specs.declared.reader.ProgramRead.{ProgramRead}
 use Rattle.program.specs.declared.reader.Transitions.{Transitions}
 
+-- A header's answer.
 abbrev pub headerRead : Result (Found Header) → HeaderRead
 headerRead (ok f) = HeaderRead.the-variants.Read (f .value) (f .next)
 headerRead (refused r) = HeaderRead.the-variants.Refused r
@@ -45,32 +46,36 @@ startsReader = do
   starts ← times (header .transitions) (startOf header)
   pure (record { header = header; starts = starts })
 
+-- As `readProgram`, with nothing left over.
 unfoldable pub readStarts : List ℕ → Result Starts
 unfolding whole startsReader
 readStarts = whole programLength startsReader
 
--- Entries beyond the transitions are 0.
-abbrev pub none : List ℕ
-none = replicate maxTransitions 0
+-- Entries without a transition are 0.
+abbrev pub noStarts : List ℕ
+noStarts = replicate maxTransitions 0
 
 abbrev pub padded : List ℕ → List ℕ
 padded starts = starts ++ replicate (maxTransitions - length starts) 0
 
+-- What reading the transitions answers: where they end, and where they start.
 abbrev pub transitionsOf : Result (Found (List ℕ)) → Transitions
 transitionsOf (ok f) = record { end = End.the-variants.At (f .next); starts = padded (f .value) }
-transitionsOf (refused r) = record { end = End.the-variants.Refused r; starts = none }
+transitionsOf (refused r) = record { end = End.the-variants.Refused r; starts = noStarts }
 
--- What the reader's answer is, by the definition's.
+-- The reader's answer, by the definition's program.
 abbrev pub readAnswer : Result Program → ReadAnswer
 readAnswer (ok p) = ReadAnswer.the-variants.Readable (p .header)
 readAnswer (refused r) = ReadAnswer.the-variants.Refused r
 
+-- The reader's entries.
 abbrev pub entries : Result Starts → List ℕ
 entries (ok s) = padded (s .starts)
-entries (refused r) = none
+entries (refused r) = noStarts
 
+-- Answer and entries together, on a refusal and else.
 abbrev pub refusedProgram : Refusal → ProgramRead
-refusedProgram r = record { answer = ReadAnswer.the-variants.Refused r; starts = none }
+refusedProgram r = record { answer = ReadAnswer.the-variants.Refused r; starts = noStarts }
 
 abbrev pub programRead : Result Starts → ProgramRead
 programRead (ok f) = record { answer = ReadAnswer.the-variants.Readable (f .header); starts = padded (f .starts) }

@@ -64,6 +64,7 @@ pub fn read_byte(bytes: &[u8], at: usize, early: u8) -> Byte
     }
 }
 
+// A byte as a number of two bytes.
 fn wide(value: u8) -> u16
     ensures { λ r. ⌜ r ≡ value ⌝ }
 {

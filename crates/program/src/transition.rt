@@ -43,18 +43,18 @@ enum Form {
     Unknown,
 }
 
-// The table of kinds: load, store, assign, assume, read, write, bar. The pops are no kinds of transitions.
+// The table of kinds, with the map of each. The pops are no kinds of transitions.
 fn form_of(kind: u8) -> Form
     ensures { λ r. ⌜ optionMap (lookup kind forms) ≡ r ⌝ }
 {
     match kind {
-        1 => Form::Map(3),
-        2 => Form::Map(6),
-        3 => Form::Map(3),
-        4 => Form::Map(2),
-        5 => Form::Map(30),
-        6 => Form::Map(30),
-        9 => Form::Map(0),
+        1 => Form::Map(3), // load
+        2 => Form::Map(6), // store
+        3 => Form::Map(3), // assign
+        4 => Form::Map(2), // assume
+        5 => Form::Map(30), // read
+        6 => Form::Map(30), // write
+        9 => Form::Map(0), // bar
         _ => Form::Unknown,
     }
 }

@@ -7,15 +7,18 @@ use program::expression::evaluate;
 use program::reader::ReadAnswer;
 use program::reader::read_program;
 
+// Writes to standard output.
 fn word(text: &[u8]) {
     io::write_all(STDOUT_FILENO, text);
 }
 
+// A number, after a space.
 fn number(n: u64) {
     word(b" ");
     io::print_decimal(STDOUT_FILENO, n);
 }
 
+// The line of a refusal.
 fn refused(number_of: u8, place: usize) {
     word(b"refused");
     number(number_of as u64);
@@ -32,6 +35,7 @@ fn places(count: usize, starts: [usize; 128]) {
     }
 }
 
+// The line of a program that can be read.
 fn readable(header: Header, starts: [usize; 128]) {
     word(b"readable");
     number(header.ranks as u64);
@@ -45,6 +49,7 @@ fn readable(header: Header, starts: [usize; 128]) {
     word(b"\n");
 }
 
+// What reading these bytes finds.
 fn read(bytes: &[u8]) {
     let found = read_program(bytes);
     let answer = found.answer;
@@ -55,7 +60,7 @@ fn read(bytes: &[u8]) {
     }
 }
 
-// The expression at the front of the bytes, in rank 1 of two ranks, whose sixteen registers hold 7.
+// The value of the expression at the front of the bytes, in rank 1 of two ranks, whose sixteen registers hold 7.
 fn value(bytes: &[u8]) {
     let header = Header {
         ranks: 2,
@@ -76,6 +81,7 @@ fn value(bytes: &[u8]) {
     }
 }
 
+// The first so many bytes.
 fn cut_off(bytes: &[u8], length: usize) {
     if length <= bytes.len() {
         read(&bytes[0..length]);

@@ -14,6 +14,7 @@ use Rattle.program.proofs.Fields.{byte-told, byte-early, word-is}
 use Rattle.program.proofs.bytes.read_word.Statement.{statement}
 use Rattle.program.proofs.bytes.read_word.Tie as tie
 
+-- No first byte, no second, and both.
 module _ (early : ℕ) (bytes : List ℕ) (at : ℕ) where
   no-high : {high : Byte} {r : Refusal} → high ≡ byteField (byte early bytes at) → high ≡ Byte.the-variants.Refused r →
       Word.the-variants.Refused (record { number = early; place = length bytes }) ≡ wordField (word early bytes at)
@@ -52,8 +53,7 @@ enum-told-2 c = search needs
 
 returns-2 : tie.Need-returns-2
 returns-2 c =
-    let c₁ = c .before .before .before .before in
-    let atHigh = c₁ in
+    let atHigh = c .before .before .before .before in
     no-low _ _ _ (atHigh .before .before .read-byte .ensures) (atHigh .high .given .1) (c .before .before .read-byte2 .ensures)
     (c .enum-told2 .given .1)
 
