@@ -1,0 +1,59 @@
+-- `replay::commands::take_action` meets its contract: the action differs, or it is done and the rank moves on.
+use borrow.Author.Needs.{needs}
+use Rattle.replay.proofs.CommandSteps.{action-refused, action-taken}
+use Rattle.replay.proofs.commands.take_action.Statement.{statement}
+use Rattle.replay.proofs.commands.take_action.Tie as tie
+
+group-of-requires : tie.Need-group-of-requires
+group-of-requires c κs = search needs
+
+act-requires : tie.Need-act-requires
+act-requires c κs = search needs
+
+enum-known-acted : tie.Need-enum-known-acted
+enum-known-acted c = search needs
+
+enum-told : tie.Need-enum-told
+enum-told c = search needs
+
+returns : tie.Need-returns
+returns c =
+    let g = c .before .before .before .before .before .before .before .before .args in
+    let p = c .before .before .before .before .before .before .before .before .pre in
+    λ P t a n x e s held o w.
+    action-refused (record { control = g .control .now; registers = g .registers .now; cells = g .cells .now; entries = g .entries .now; counters = g .counters .now }) P s (g .at) (g .item) t a held
+    (record { registers = c .before .before .act .last .1 .1 .1 .1 .0; cells = c .before .before .act .last .1 .1 .1 .1 .1 .0; entries = c .before .before .act .last .1 .1 .1 .1 .1 .1 .0; counters = c .before .before .act .last .1 .1 .1 .1 .1 .1 .1 .0 })
+    (c .before .before .act .result) (c .before .before .act .ensures a e) o w (c .before .before .before .before .before .before .before .group-of .ensures) (c .enum-told .given .1)
+
+set-control-requires : tie.Need-set-control-requires
+set-control-requires c κs = search needs
+
+opened-after-requires : tie.Need-opened-after-requires
+opened-after-requires c κs = search needs
+
+row-after-requires : tie.Need-row-after-requires
+row-after-requires c κs = search needs
+
+returns-2 : tie.Need-returns-2
+returns-2 c =
+    let g = c .before .before .before .before .before .before .before .before .before .before .before .before .before .args in
+    let p = c .before .before .before .before .before .before .before .before .before .before .before .before .before .pre in
+    λ P t a n x e s held o w.
+    action-taken (record { control = g .control .now; registers = g .registers .now; cells = g .cells .now; entries = g .entries .now; counters = g .counters .now }) P s (g .at) (g .item) t a held
+    (record { registers = c .before .before .before .before .before .before .before .act .last .1 .1 .1 .1 .0; cells = c .before .before .before .before .before .before .before .act .last .1 .1 .1 .1 .1 .0; entries = c .before .before .before .before .before .before .before .act .last .1 .1 .1 .1 .1 .1 .0; counters = c .before .before .before .before .before .before .before .act .last .1 .1 .1 .1 .1 .1 .1 .0 })
+    (c .before .before .before .before .before .before .before .act .result) (c .before .before .before .before .before .before .before .act .ensures a e) o w (c .before .before .before .before .before .before .before .before .before .before .before .before .group-of .ensures) (p .0)
+    (c .before .before .before .before .before .acted .given .1) n x (c .before .before .set-control .ensures) (c .before .opened-after .ensures) (c .row-after .ensures)
+
+pub take-action-spec : {M : Type 1} → statement M
+take-action-spec =
+    tie.close
+    (tie.spec
+    group-of-requires
+    act-requires
+    enum-known-acted
+    enum-told
+    returns
+    set-control-requires
+    opened-after-requires
+    row-after-requires
+    returns-2)

@@ -1,0 +1,19 @@
+-- `replay::operands::write` meets its contract, by what came of the operands.
+use borrow.Author.Needs.{needs}
+use Rattle.replay.proofs.operands.write.Statement.{statement}
+use Rattle.replay.proofs.operands.write.Tie as tie
+
+enum-known-operands : tie.Need-enum-known-operands
+enum-known-operands c = search needs
+
+enum-known-operands-2 : tie.Need-enum-known-operands-2
+enum-known-operands-2 c = search needs
+
+returns : tie.Need-returns
+returns c = (rw (c .before .operands .given .1), rw (c .before .operands .given .1) at (c .before .before .before .pre))
+
+returns-2 : tie.Need-returns-2
+returns-2 c = (rw (c .before .operands2 .given .1), tt)
+
+pub write-spec : {M : Type 1} → statement M
+write-spec = tie.close (tie.spec enum-known-operands enum-known-operands-2 returns returns-2)

@@ -1,0 +1,94 @@
+-- `replay::pops::take_fetch` meets its contract: each way through it is a law of `PopAgree`.
+use borrow.Author.Needs.{needs}
+use mathlib.Core.Path.{refl}
+use native.Mathlib.Omega.{arith}
+use native.Mathlib.Nat.{le-of-lt}
+use Rattle.replay.proofs.PopAgree.{request-slot, fetch-none, fetch-refused, fetch-taken}
+use Rattle.replay.proofs.pops.take_fetch.Statement.{statement}
+use Rattle.replay.proofs.pops.take_fetch.Tie as tie
+
+oldest-request-requires : tie.Need-oldest-request-requires
+oldest-request-requires c κs = search needs
+
+enum-known-head : tie.Need-enum-known-head
+enum-known-head c = search needs
+
+enum-told : tie.Need-enum-told
+enum-told c = search needs
+
+returns : tie.Need-returns
+returns c =
+    let a = c .before .before .before .before .before .args in
+    let p = c .before .before .before .before .before .pre in
+    λ control registers s held o w.
+    fetch-none (record { control = control; registers = registers; cells = a .cells .now; entries = a .entries .now; counters = a .counters .now }) s (a .item) (a .at) held (p .0) (p .1 .0)
+    (c .before .before .oldest-request .ensures) (c .enum-told .given .1)
+
+cell-at-requires : tie.Need-cell-at-requires
+cell-at-requires c κs = search needs
+
+names-requires : tie.Need-names-requires
+names-requires c κs =
+    let a = c .before .before .before .before .before .before .before .before .args in
+    let p = c .before .before .before .before .before .before .before .before .pre in
+    let (fits, _) = request-slot (a .counters .now) (a .at) (a .item .rank) (a .item .queue) (p .0) (p .1 .0) (p .1 .1 .1 .0) (p .1 .1 .1 .1)
+    (c .before .before .before .head .given .1) (c .before .before .before .before .before .oldest-request .ensures) in
+    (p .0, (p .1 .0, (fits, omega arith)))
+
+agrees-there-requires : tie.Need-agrees-there-requires
+agrees-there-requires c κs = search needs
+
+group-at-requires : tie.Need-group-at-requires
+group-at-requires c κs =
+    let a = c .before .before .before .before .before .before .before .before .before .before .before .before .args in
+    let p = c .before .before .before .before .before .before .before .before .before .before .before .before .pre in
+    let (fits, _) = request-slot (a .counters .now) (a .at) (a .item .rank) (a .item .queue) (p .0) (p .1 .0) (p .1 .1 .1 .0) (p .1 .1 .1 .1)
+    (c .before .before .before .before .before .before .before .head .given .1) (c .before .before .before .before .before .before .before .before .before .oldest-request .ensures) in
+    (p .0, (p .1 .0, fits))
+
+fetch-requires : tie.Need-fetch-requires
+fetch-requires c κs =
+    let a = c .before .before .before .before .before .before .before .before .before .before .before .before .before .before .before .args in
+    let p = c .before .before .before .before .before .before .before .before .before .before .before .before .before .before .before .pre in
+    let (_, fits) = request-slot (a .counters .now) (a .at) (a .item .rank) (a .item .queue) (p .0) (p .1 .0) (p .1 .1 .1 .0) (p .1 .1 .1 .1)
+    (c .before .before .before .before .before .before .before .before .before .before .head .given .1) (c .before .before .before .before .before .before .before .before .before .before .before .before .oldest-request .ensures) in
+    (p .0, (p .1 .0, fits))
+
+read-of-requires : tie.Need-read-of-requires
+read-of-requires c κs = search needs
+
+returns-2 : tie.Need-returns-2
+returns-2 c =
+    let a = c .before .before .before .before .before .before .before .before .before .before .before .before .before .before .before .before .before .args in
+    let p = c .before .before .before .before .before .before .before .before .before .before .before .before .before .before .before .before .before .pre in
+    λ control registers s held o w.
+    fetch-taken (record { control = control; registers = registers; cells = a .cells .now; entries = a .entries .now; counters = a .counters .now }) s (a .item) (a .at) held (p .0) (p .1 .0)
+    (c .before .before .before .before .before .before .before .before .before .before .before .before .head .given .1) (c .before .before .before .before .before .before .before .agrees-there .ensures) (c .before .before .before .before .before .before .before .before .before .before .before .before .before .before .oldest-request .ensures) (c .before .before .before .before .before .before .before .before .names .ensures) (p .1 .1 .0)
+    (c .before .before .before .before .before .before .before .before .before .before .cell-at .ensures) (c .before .before .before .before .before .before .if1 .taken) (le-of-lt (p .1 .1 .1 .0)) o w
+    (c .before .before .before .before .group-at .ensures) (c .read-of .ensures) (c .before .fetch .ensures .0) (c .before .fetch .ensures .1)
+
+returns-3 : tie.Need-returns-3
+returns-3 c =
+    let a = c .before .before .before .before .before .before .before .before .before .before .before .args in
+    let p = c .before .before .before .before .before .before .before .before .before .before .before .pre in
+    λ control registers s held o w.
+    fetch-refused (record { control = control; registers = registers; cells = a .cells .now; entries = a .entries .now; counters = a .counters .now }) s (a .item) (a .at) held (p .0) (p .1 .0)
+    (c .before .before .before .before .before .before .head .given .1) (c .before .agrees-there .ensures) (c .before .before .before .before .before .before .before .before .oldest-request .ensures) (c .before .before .names .ensures) (p .1 .1 .0)
+    (c .before .before .before .before .cell-at .ensures) (c .if1 .left)
+
+pub take-fetch-spec : {M : Type 1} → statement M
+take-fetch-spec =
+    tie.close
+    (tie.spec
+    oldest-request-requires
+    enum-known-head
+    enum-told
+    returns
+    cell-at-requires
+    names-requires
+    agrees-there-requires
+    group-at-requires
+    fetch-requires
+    read-of-requires
+    returns-2
+    returns-3)

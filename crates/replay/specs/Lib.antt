@@ -1,0 +1,10 @@
+-- The code's arrays, and how they stand for the definition's state.
+pub mod Tables
+pub mod Queues
+pub mod Tied
+pub mod Steps
+pub mod Actions
+pub mod Commands
+pub mod Transitions
+pub mod Verdicts
+pub mod Items
