@@ -1,52 +1,32 @@
 // Reads programs of every shape and prints what the reader finds, a line for each: the six header numbers and where the transitions start, or the
 // refusal's number and place; then the values of some expressions and where they end.
-use libc::STDOUT_FILENO;
 use model::Header;
 use program::bytes::Word;
 use program::expression::evaluate;
 use program::reader::ReadAnswer;
 use program::reader::read_program;
 
-// Writes to standard output.
-fn word(text: &[u8]) {
-    io::write_all(STDOUT_FILENO, text);
-}
-
-// A number, after a space.
-fn number(n: u64) {
-    word(b" ");
-    io::print_decimal(STDOUT_FILENO, n);
-}
-
-// The line of a refusal.
-fn refused(number_of: u8, place: usize) {
-    word(b"refused");
-    number(number_of as u64);
-    number(place as u64);
-    word(b"\n");
-}
-
 // The first so many entries.
 fn places(count: usize, starts: [usize; 128]) {
     for i in 0..128 {
         if i < count {
-            number(starts[i] as u64);
+            print::number(starts[i] as u64);
         }
     }
 }
 
 // The line of a program that can be read.
 fn readable(header: Header, starts: [usize; 128]) {
-    word(b"readable");
-    number(header.ranks as u64);
-    number(header.cells as u64);
-    number(header.registers as u64);
-    number(header.queues as u64);
-    number(header.states as u64);
-    number(header.transitions as u64);
-    word(b" starts");
+    print::text(b"readable");
+    print::number(header.ranks as u64);
+    print::number(header.cells as u64);
+    print::number(header.registers as u64);
+    print::number(header.queues as u64);
+    print::number(header.states as u64);
+    print::number(header.transitions as u64);
+    print::text(b" starts");
     places(header.transitions as usize, starts);
-    word(b"\n");
+    print::text(b"\n");
 }
 
 // What reading these bytes finds.
@@ -56,7 +36,7 @@ fn read(bytes: &[u8]) {
     let starts = found.starts;
     match answer {
         ReadAnswer::Readable(header) => readable(header, starts),
-        ReadAnswer::Refused(refusal) => refused(refusal.number, refusal.place),
+        ReadAnswer::Refused(refusal) => print::refusal(refusal),
     }
 }
 
@@ -72,12 +52,12 @@ fn value(bytes: &[u8]) {
     };
     match evaluate(bytes, 0, header, 1, [7; 16]) {
         Word::Read(value, next) => {
-            word(b"value");
-            number(value as u64);
-            number(next as u64);
-            word(b"\n");
+            print::text(b"value");
+            print::number(value as u64);
+            print::number(next as u64);
+            print::text(b"\n");
         }
-        Word::Refused(refusal) => refused(refusal.number, refusal.place),
+        Word::Refused(refusal) => print::refusal(refusal),
     }
 }
 

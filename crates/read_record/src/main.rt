@@ -1,9 +1,7 @@
 // Reads small records for the neighbour program of document 01 and prints of each the items with their places, or the refusal.
-use libc::STDOUT_FILENO;
 use model::Header;
 use model::Item;
 use model::Kind;
-use model::Refusal;
 use record::item::ItemRead;
 use record::item::read_item;
 use record::reader::RecordRead;
@@ -21,33 +19,17 @@ fn neighbour() -> Header {
     }
 }
 
-fn print(word: &[u8]) {
-    io::write_all(STDOUT_FILENO, word);
-}
-
-fn print_number(number: u64) {
-    io::write_all(STDOUT_FILENO, b" ");
-    io::print_decimal(STDOUT_FILENO, number);
-}
-
-fn print_refusal(refusal: Refusal) {
-    print(b"refused");
-    print_number(refusal.number as u64);
-    print_number(refusal.place as u64);
-    print(b"\n");
-}
-
 fn print_kind(kind: Kind) {
     match kind {
-        Kind::Load => print(b"load"),
-        Kind::Store => print(b"store"),
-        Kind::Assign => print(b"assign"),
-        Kind::Assume => print(b"assume"),
-        Kind::Read => print(b"read"),
-        Kind::Write => print(b"write"),
-        Kind::Popa => print(b"popa"),
-        Kind::Popb => print(b"popb"),
-        Kind::Bar => print(b"bar"),
+        Kind::Load => print::text(b"load"),
+        Kind::Store => print::text(b"store"),
+        Kind::Assign => print::text(b"assign"),
+        Kind::Assume => print::text(b"assume"),
+        Kind::Read => print::text(b"read"),
+        Kind::Write => print::text(b"write"),
+        Kind::Popa => print::text(b"popa"),
+        Kind::Popb => print::text(b"popb"),
+        Kind::Bar => print::text(b"bar"),
     }
 }
 
@@ -55,17 +37,17 @@ fn print_kind(kind: Kind) {
 fn print_item(item: Item, at: usize) {
     let kind = item.kind;
     print_kind(kind);
-    print_number(item.rank as u64);
-    print(b" at");
-    print_number(at as u64);
-    print(b"\n");
+    print::number(item.rank as u64);
+    print::text(b" at");
+    print::number(at as u64);
+    print::text(b"\n");
 }
 
 // Prints the item at a place, and answers the place after it.
 fn show_item(header: Header, bytes: &[u8], at: usize) -> usize {
     let read = read_item(header, bytes, at);
     let ItemRead::Read { item, next } = read else {
-        print_refusal(read.refusal());
+        print::refusal(read.refusal());
         return at;
     };
     print_item(item, at);
@@ -73,9 +55,9 @@ fn show_item(header: Header, bytes: &[u8], at: usize) -> usize {
 }
 
 fn show_items(header: Header, bytes: &[u8], count: usize) {
-    print(b"readable");
-    print_number(count as u64);
-    print(b"\n");
+    print::text(b"readable");
+    print::number(count as u64);
+    print::text(b"\n");
     let mut at = 2;
     let mut left = count;
     while left > 0 {
@@ -85,12 +67,12 @@ fn show_items(header: Header, bytes: &[u8], count: usize) {
 }
 
 fn show(name: &[u8], bytes: &[u8]) {
-    print(name);
-    print(b": ");
+    print::text(name);
+    print::text(b": ");
     let header = neighbour();
     match read_record(header, bytes) {
         RecordRead::Readable { count } => show_items(header, bytes, count),
-        RecordRead::Refused(refusal) => print_refusal(refusal),
+        RecordRead::Refused(refusal) => print::refusal(refusal),
     }
 }
 

@@ -128,43 +128,51 @@ record StepIn (header : Header) (map : ℕ) (step : Step) : Type 0 where
 abbrev PlaceIn : Header → Address → Type 0
 PlaceIn header place = (1 ≤ place .rank) × (place .rank ≤ header .ranks) × (place .cell < header .cells)
 
+-- An item whose fields are in their ranges; its value is, where the bytes are bytes.
+pub record Ranged (header : Header) (bytes : List ℕ) (i : Item) : Type 0 where
+  pub low : 1 ≤ i .rank
+  pub high : i .rank ≤ header .ranks
+  pub choice : ChosenIn header (partOf (i .kind)) i
+  pub place : hasPlace (i .kind) ≡ true → PlaceIn header (i .place)
+  pub given : AreBytes bytes → GivenIn (i .given)
+
 -- The fields behind the kind are in their ranges, part by part.
-module _ (header : Header) (map : ℕ) (bytes : List ℕ) (bounds : AreBytes bytes) where
-  value-in-record : (step : Step) (place : Address) (at : ℕ) {f : Found Item} → Bits (step .kind) map → StepIn header map step →
-      (hasPlace (step .kind) ≡ true → PlaceIn header place) → readValue map step place bytes at ≡ ok f → InRecord header (f .value)
+module _ (header : Header) (map : ℕ) (bytes : List ℕ) where
+  value-ranged : (step : Step) (place : Address) (at : ℕ) {f : Found Item} → Bits (step .kind) map → StepIn header map step →
+      (hasPlace (step .kind) ≡ true → PlaceIn header place) → readValue map step place bytes at ≡ ok f → Ranged header bytes (f .value)
   unfolding readValue
-  value-in-record step place at bits s p h =
+  value-ranged step place at bits s p h =
       let (g, e, h₁) = bind-ok (optional (bit 5 map) Absent givenValue bytes at) _ h in
-      subst (λ (f : Found Item). InRecord header (f .value)) (ok-injective h₁)
+      subst (λ (f : Found Item). Ranged header bytes (f .value)) (ok-injective h₁)
       (record {
         low = s .rank .0;
         high = s .rank .1;
         choice = chosen-in header (partOf (step .kind)) _ map (bits .chosen) (s .transition) (s .queue);
         place = p;
-        given = given-in bytes at (bit 5 map) bounds e;
+        given = λ bounds. given-in bytes at (bit 5 map) bounds e;
       })
 
-  place-in-record : (step : Step) (at : ℕ) {f : Found Item} → Bits (step .kind) map → StepIn header map step →
-      readPlace header map step bytes at ≡ ok f → InRecord header (f .value)
+  place-ranged : (step : Step) (at : ℕ) {f : Found Item} → Bits (step .kind) map → StepIn header map step →
+      readPlace header map step bytes at ≡ ok f → Ranged header bytes (f .value)
   unfolding readPlace
-  place-in-record step at bits s h =
+  place-ranged step at bits s h =
       let (r, er, h₁) = bind-ok (rankField (bit 3 map) (header .ranks) bytes at) _ h in
       let (c, ec, h₂) = bind-ok (cellField (bit 4 map) (header .cells) bytes (r .next)) _ h₁ in
-      value-in-record step (record { rank = r .value; cell = c .value }) (c .next) bits s
+      value-ranged step (record { rank = r .value; cell = c .value }) (c .next) bits s
       (λ has.
       let (b₃, b₄) = bits .place has in
       let (low, high) = rank-in (bit 3 map) (header .ranks) bytes at er b₃ in
       (low, high, cell-in (bit 4 map) (header .cells) bytes (r .next) ec b₄))
       h₂
 
-  fields-in-record : (kind : Kind) (at : ℕ) {f : Found Item} → Bits kind map → readStep header map kind bytes at ≡ ok f →
-      InRecord header (f .value)
+  fields-ranged : (kind : Kind) (at : ℕ) {f : Found Item} → Bits kind map → readStep header map kind bytes at ≡ ok f →
+      Ranged header bytes (f .value)
   unfolding readStep
-  fields-in-record kind at bits h =
+  fields-ranged kind at bits h =
       let (r, er, h₁) = bind-ok (rankField (bit 0 map) (header .ranks) bytes at) _ h in
       let (t, et, h₂) = bind-ok (belowField (bit 1 map) (header .transitions) bytes (r .next)) _ h₁ in
       let (q, eq, h₃) = bind-ok (belowField (bit 2 map) (header .queues) bytes (t .next)) _ h₂ in
-      place-in-record (record { kind = kind; rank = r .value; transition = t .value; queue = q .value }) (q .next) bits
+      place-ranged (record { kind = kind; rank = r .value; transition = t .value; queue = q .value }) (q .next) bits
       (record {
         rank = rank-in (bit 0 map) (header .ranks) bytes at er (bits .rank);
         transition = below-in (bit 1 map) (header .transitions) bytes (r .next) et;
@@ -172,15 +180,20 @@ module _ (header : Header) (map : ℕ) (bytes : List ℕ) (bounds : AreBytes byt
       })
       h₃
 
+pub item-ranged : (header : Header) (bytes : List ℕ) (at : ℕ) {f : Found Item} → readItem header bytes at ≡ ok f → Ranged header bytes (f .value)
+item-ranged header bytes at h =
+    let (m, em, h₁) = bind-ok (byte recordLength bytes at) _ (rw readItem-is at h) in
+    let (k, ek, h₂) = bind-ok (byte recordLength bytes (m .next)) _ h₁ in
+    let (kind, e, h₃) = bind-ok (judgedItemForm at (m .value) (lookup (k .value) itemForms) bytes (k .next)) _ h₂ in
+    fields-ranged header (m .value) bytes (kind .value) (kind .next)
+    (right-bits at (m .value) (k .value) bytes (k .next) (lookup (k .value) itemForms) {f = kind} refl e) h₃
+
 -- So every item that was read is one "as a record has them".
 pub item-in-record : (header : Header) (bytes : List ℕ) (at : ℕ) {f : Found Item} → AreBytes bytes → readItem header bytes at ≡ ok f →
     InRecord header (f .value)
 item-in-record header bytes at bounds h =
-    let (m, em, h₁) = bind-ok (byte recordLength bytes at) _ (rw readItem-is at h) in
-    let (k, ek, h₂) = bind-ok (byte recordLength bytes (m .next)) _ h₁ in
-    let (kind, e, h₃) = bind-ok (judgedItemForm at (m .value) (lookup (k .value) itemForms) bytes (k .next)) _ h₂ in
-    fields-in-record header (m .value) bytes bounds (kind .value) (kind .next)
-    (right-bits at (m .value) (k .value) bytes (k .next) (lookup (k .value) itemForms) {f = kind} refl e) h₃
+    let r = item-ranged header bytes at h in
+    record { low = r .low; high = r .high; choice = r .choice; place = r .place; given = r .given bounds }
 
 pub items-in-record : {header : Header} {bytes : List ℕ} {at : ℕ} {items : List Item} → AreBytes bytes → ItemsFrom header bytes at items →
     Each (InRecord header) items

@@ -17,3 +17,8 @@ pub mod TransitionSteps
 pub mod ItemSteps
 pub mod Premises
 pub mod Quiet
+pub mod Filled
+pub mod Growth
+pub mod Runs
+pub mod Endings
+pub mod Handed

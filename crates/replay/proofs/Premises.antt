@@ -15,8 +15,10 @@ use Rattle.model.specs.Replay as Replay
 use Rattle.model.specs.Replay.{Replay, partOf, begin}
 use Rattle.model.specs.Machine.{Start, initial}
 use Rattle.model.specs.Limits.{maxRanks, maxCells, maxRegisters, maxQueues, maxItems}
-use Rattle.model.specs.Traces.{InRecord, ChosenIn, hasPlace}
+use Rattle.model.specs.Traces.{ChosenIn, hasPlace}
+use Rattle.program.proofs.Headers.{Bounded}
 use Rattle.program.proofs.Programs.{Placed, endAt}
+use Rattle.record.proofs.Ranges.{Ranged}
 use Rattle.replay.specs.Tables.{Rank, Place, Shaped, ofRank, entry}
 use Rattle.replay.specs.Queues.{slots, entryWidth, issuedAt, fetchedAt, deliveredAt}
 use Rattle.replay.specs.Tied.{Below}
@@ -53,8 +55,19 @@ delivery-place Popa e = refl
 delivery-place Popb e = refl
 delivery-place Bar e = cc
 
--- An item "as a record has them" fits.
-pub item-fits : (header : Header) (i : Item) → HeaderFits header → InRecord header i → ItemFits header i
+-- The numbers of a header that was read fit.
+pub header-fits : {header : Header} → Bounded header → HeaderFits header
+header-fits b =
+    record {
+      ranksFit = b .ranks .1;
+      cellsFit = b .cells .1;
+      registersFit = b .registers .1;
+      queuesFit = b .queues .1;
+      transitionsFit = b .transitions;
+    }
+
+-- An item that was read fits.
+pub item-fits : {bytes : List ℕ} (header : Header) (i : Item) → HeaderFits header → Ranged header bytes i → ItemFits header i
 item-fits header i h r =
     record {
       rankFits = record { first = r .low; last = omega (arith, r .high, h .ranksFit) };

@@ -8,3 +8,6 @@ pub mod Commands
 pub mod Transitions
 pub mod Verdicts
 pub mod Items
+pub mod Runs
+pub mod Endings
+pub mod Handed

@@ -4,6 +4,7 @@ use mathlib.Core.Path.{_≡_}
 use mathlib.Core.List.{List}
 use mathlib.Core.Option.{Option, some, none}
 use Rattle.model.specs.declared.Address.{Address}
+use Rattle.model.specs.declared.Refusal.{Refusal}
 use Rattle.model.specs.Limits.{maxCells, maxQueues}
 use Rattle.model.specs.Refusals.{Result, ok, refused}
 use Rattle.model.specs.Expressions.{truth}
@@ -23,6 +24,11 @@ addressNumber a = (a .rank - 1) * maxCells + a .cell
 abbrev pub accessNumber : Option Access → ℕ
 accessNumber none = 0
 accessNumber (some a) = 1 + addressNumber (a .address) * 2 + truth (a .writes)
+
+-- The refusal in an answer; none is the number 0, which no row of the table has.
+abbrev pub stepRefusal : Step → Refusal
+stepRefusal (Step.the-variants.Taken opened row group access) = record { number = 0; place = 0 }
+stepRefusal (Step.the-variants.Refused r) = r
 
 -- The contents of the machine's arrays.
 pub record Memory : Type 0 where

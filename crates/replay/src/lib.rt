@@ -1,7 +1,9 @@
-// One step of the replay: the machine's arrays, and an item taken or refused. Every function equals its definition in `model`.
+// The replay of a record on a program: the machine's arrays, and each item taken or refused. Every function equals its definition in `model`.
 mod actions;
 mod agreement;
 mod commands;
+mod copies;
+mod ending;
 mod items;
 mod memory;
 mod operands;
@@ -9,5 +11,7 @@ mod pops;
 mod queues;
 mod refusals;
 mod rows;
+mod run;
 mod step;
 mod transitions;
+pub mod whole;

@@ -17,3 +17,6 @@ pub const ACCESS_DIFFERS: u8 = 11;
 
 // "bar whose rank is not the next of its row (rank 1 opens one), or another item in an open row"
 pub const BARRIER_ROW: u8 = 12;
+
+// "requests or deliveries left"
+pub const QUEUES_LEFT: u8 = 13;

@@ -4,7 +4,7 @@ use model::Refusal;
 ghost use mathlib.Core.Path.{_≡_};
 ghost use Prim.Native.Nat.{_+_, _*_};
 ghost use Rattle.replay.specs.Tables.{Place};
-ghost use Rattle.replay.specs.Steps.{addressNumber};
+ghost use Rattle.replay.specs.Steps.{addressNumber, stepRefusal};
 
 // An item taken: how many groups there are then, the barrier row, the item's group and its access; or the refusal.
 pub enum Step {
@@ -15,6 +15,26 @@ pub enum Step {
         access: u16,
     },
     Refused(Refusal),
+}
+
+impl Step {
+    // The refusal in whose place an item was taken. No row of the table has the number 0, which stands for none.
+    pub fn refusal(self) -> Refusal
+        ensures { λ r. ⌜ r ≡ stepRefusal self ⌝ }
+    {
+        match self {
+            Step::Refused(refusal) => refusal,
+            Step::Taken {
+                opened: _,
+                row: _,
+                group: _,
+                access: _,
+            } => Refusal {
+                number: 0,
+                place: 0,
+            },
+        }
+    }
 }
 
 // An address as one number.
