@@ -19,7 +19,8 @@ use Rattle.replay.specs.Steps.{addressNumber}
 use Rattle.replay.specs.Actions.{Part, PartTied, DoneAs, answered}
 use Rattle.replay.proofs.Tied.{tied-later, tied-register, tied-cell, tied-issued}
 
-module _ {most : ℕ} (control : List ℕ) (p : Part) (i : Item) (s : State Origin) (origin : Origin) (held : PartTied most control p s) (r : Rank (i .rank)) where
+module _ {most : ℕ} (control : List ℕ) (p : Part) (i : Item) (s : State Origin) (origin : Origin) (held : PartTied most control p s) (r : Rank (i
+    .rank)) where
   -- "register takes cell e1 of its own rank"
   module _ (x a : ℕ) (fits : a < maxCells) {value : ℕ} {here agreed : Bool} (v : value ≡ entry (p .cells) (i .rank) a)
       (h : here ≡ sameAddress (i .place) (address (i .rank) a)) (e : agreed ≡ (here && agrees (i .given) value)) where

@@ -101,7 +101,8 @@ module _ (P : Program) (rank : ℕ) (registers bytes : List ℕ) (at : ℕ) {t :
         sourceIs = s;
         targetIs = g;
         actionIs = λ n. rw k
-            (laid-action P rank registers bytes at n t few (t .command) end (laid .fields) ∙ sym (action-by P rank n (registerOf registers) t (t .command)));
+            (laid-action P rank registers bytes at n t few (t .command) end (laid .fields) ∙ sym (action-by P rank n (registerOf registers) t (t
+            .command)));
       }
 
 -- The same of a struct that is the definition's wherever the start is inside the bytes.

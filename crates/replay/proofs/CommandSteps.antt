@@ -24,7 +24,8 @@ taken P s i t a =
       state =
           record {
             machine =
-                moveTo (perform (i .rank) (record { place = s .taken (i .rank); group = groupOf (s .opened) i }) a (s .machine)) (i .rank) (t .target);
+                moveTo (perform (i .rank) (record { place = s .taken (i .rank); group = groupOf (s .opened) i }) a (s .machine)) (i .rank) (t
+                .target);
             taken = put (s .taken) (i .rank) (s .taken (i .rank) + 1);
             opened = openedAfter (s .opened) i;
             row = rowAfter (P .header .ranks) (s .row) i;
@@ -54,7 +55,8 @@ withPart control p =
     record { control = control; registers = p .registers; cells = p .cells; entries = p .entries; counters = p .counters }
 
 module _ {most : ℕ} (m : Memory) (P : Program) (s : Replay) (at : ℕ) (i : Item) (t : Transition) (a : Machine.Action) (held : Holds most m s)
-    (after : Part) (acted : Acted) {group opened row : ℕ} (done : Performed most (partOf m) after i group a acted) (o : s .opened ≡ opened) (w : s .row ≡ row)
+    (after : Part) (acted : Acted) {group opened row : ℕ} (done : Performed most (partOf m) after i group a acted) (o : s .opened ≡ opened) (w : s
+    .row ≡ row)
     (g : group ≡ groupOf opened i) where
   did : DoneAs most (m .control) (partOf m) after i (record { place = s .taken (i .rank); group = groupOf (s .opened) i }) a (s .machine) acted
   did = done (m .control) (s .machine) (record { place = s .taken (i .rank); group = groupOf (s .opened) i }) held

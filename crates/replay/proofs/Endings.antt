@@ -23,7 +23,8 @@ module _ (test : ℕ → Bool) where
   every-over next end h = let z : end - next ≡ 0 = omega arith in rw z
 
   -- One that passes leaves the others.
-  every-next : (first count : ℕ) → 0 < count → test first ≡ true → every test (numbersFrom first count) ≡ every test (numbersFrom (first + 1) (count - 1))
+  every-next : (first count : ℕ) → 0 < count → test first ≡ true → every test (numbersFrom first count) ≡ every test (numbersFrom (first + 1) (count
+      - 1))
   unfolding every numbersFrom
   every-next first zero h t = absurd (not-suc-le-zero h)
   every-next first (suc n) h t = let e : suc n - 1 ≡ n = omega arith in rw (t, e)

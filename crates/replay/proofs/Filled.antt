@@ -67,7 +67,8 @@ module _ {A : Type 0} (f : ℕ → A) (first : ℕ) (old : List A) where
       rw (l, drop-length) (append-nil (map f (numbersFrom first count)))
 
 -- A list with a number for each rank, and a table with a row for each, are what the function makes of them.
-pub by-rank : (f : ℕ → ℕ) (numbers : List ℕ) → length numbers ≡ maxRanks → ((rank : ℕ) → Rank rank → f rank ≡ ofRank numbers rank) → numbers ≡ byRank f
+pub by-rank : (f : ℕ → ℕ) (numbers : List ℕ) → length numbers ≡ maxRanks → ((rank : ℕ) → Rank rank → f rank ≡ ofRank numbers rank) → numbers ≡ byRank
+    f
 by-rank f numbers l h =
     ext-getD 0 numbers (byRank f) (l ∙ sym (length-map (numbersFrom 1 maxRanks) f ∙ numbers-length 1 maxRanks))
     (λ i b.

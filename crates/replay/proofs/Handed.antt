@@ -32,7 +32,7 @@ use Rattle.replay.specs.Commands.{HeaderFits}
 use Rattle.replay.specs.Items.{Loaded}
 use Rattle.replay.specs.Runs.{ProgramOf, ItemsOf, Begun, Ended, RanAs, ranRefusal}
 use Rattle.replay.specs.Endings.{allQuiet}
-use Rattle.replay.specs.Handed.{startIn, Lent, HandsOver, tableOf, acceptItems, acceptRecord}
+use Rattle.replay.specs.Handed.{startIn, Lent, HandsOver, tableOf, acceptItems, acceptRecord, lent}
 use Rattle.replay.proofs.Premises.{header-fits, program-loaded, holds-start}
 use Rattle.replay.proofs.Filled.{numbers-length, numbers-at, by-rank, table-is}
 use Rattle.replay.proofs.Endings.{quiet-told}
@@ -141,8 +141,8 @@ same-answer p q r = rw (p, q, r) refl
 
 same-lent : {a a′ d d′ e e′ : List ℕ} {b b′ c c′ : Table} → a ≡ a′ → b ≡ b′ → c ≡ c′ → d ≡ d′ → e ≡ e′ →
     _≡_ {A = Lent}
-    (record { control = a; registers = b; cells = c; groups = d; accesses = e })
-    (record { control = a′; registers = b′; cells = c′; groups = d′; accesses = e′ })
+    (lent a b c d e)
+    (lent a′ b′ c′ d′ e′)
 same-lent p q r s t = rw (p, q, r, s, t) refl
 
 -- The ends of the code's replay, each with the definition's. `after` is what the arrays hold where the items end.
@@ -174,14 +174,18 @@ module _ {program starts : List ℕ} {header : Header} {recorded : List ℕ} {co
   items-open {opened} {row} e n =
       let (r, taken, end) = items-end e in
       let t : eqb (r .last .row) 0 ≡ false = rw (end .sameRow) (ne-eqb row 0 n) in
-      refuses accepted before (row-open (p .P) (begun .start) (i .items) taken t ∙ ap (λ place. refused (record { number = barrierRow; place = place })) (i .counted))
+      refuses accepted before (row-open (p .P) (begun .start) (i .items) taken t ∙ ap (λ place. refused (record {
+        number = barrierRow;
+        place = place;
+      })) (i .counted))
 
   module _ {opened row : ℕ} (e : ran ≡ Ran.the-variants.Ended opened row) (closed : row ≡ 0) where
     no-row : (r : Replayed) → r .last .row ≡ row → eqb (r .last .row) 0 ≡ true
     no-row r same = rw same (eq-eqb row 0 closed)
 
     -- What the counters tell of the queues.
-    told : (r : Replayed) → Holds count after (r .last) → quiet (p .P) (r .last .machine) ≡ allQuiet (after .counters) (header .ranks) (header .queues)
+    told : (r : Replayed) → Holds count after (r .last) → quiet (p .P) (r .last .machine) ≡ allQuiet (after .counters) (header .ranks) (header
+        .queues)
     told r held =
         quiet-told (p .P) after (r .last) (rw (p .same) (p .fits)) held
         ∙ ap (λ (h : Header). allQuiet (after .counters) (h .ranks) (h .queues)) (p .same)
@@ -196,7 +200,7 @@ module _ {program starts : List ℕ} {header : Header} {recorded : List ℕ} {co
 
     pub items-accepted : allQuiet (after .counters) (header .ranks) (header .queues) ≡ true →
         HandsOver accepted before
-        (record { control = after .control; registers = after .registers; cells = after .cells; groups = groups; accesses = accesses })
+        (lent (after .control) (after .registers) (after .cells) groups accesses)
         (Answers.the-variants.Accepted header count opened)
     items-accepted q =
         let (r, taken, end) = items-end e in
@@ -222,7 +226,8 @@ module _ {program starts : List ℕ} {header : Header} (p : ProgramOf program st
   unfolding acceptRecord
   record-read h = rw (p .same, h)
 
-pub few-items : {header : Header} {recorded : List ℕ} {items : List Item} {count : ℕ} → Recorded header recorded items → length items ≡ count → count ≤ maxItems
+pub few-items : {header : Header} {recorded : List ℕ} {items : List Item} {count : ℕ} → Recorded header recorded items → length items ≡ count → count
+    ≤ maxItems
 few-items r l = rw (← l) (r .limit)
 
 -- The items of a record that was read.
@@ -245,7 +250,8 @@ module _ (start : Start) (program recorded : List ℕ) where
   program-read h = rw h
 
 -- A program that was read.
-pub placed-loads : {program starts : List ℕ} {header : Header} {P : Program} → Placed program header starts P → HeaderFits header × Loaded program starts P
+pub placed-loads : {program starts : List ℕ} {header : Header} {P : Program} → Placed program header starts P → HeaderFits header × Loaded program
+    starts P
 placed-loads placed = (header-fits (placed .bounded), program-loaded placed)
 
 abbrev pub program-of : {program starts : List ℕ} {header : Header} {P : Program} → Placed program header starts P → ProgramOf program starts header

@@ -19,7 +19,8 @@ map-last f (x ∷ l) a = ap (λ r. f x ∷ r) (map-last f l a)
 
 -- A slot holds the same in two rows.
 abbrev pub SlotKept : (entries entries′ : ℕ → ℕ) (queue index : ℕ) → Type 0
-SlotKept entries entries′ queue index = (field : ℕ) → field < entryWidth → entries′ (slotOf queue index + field) ≡ entries (slotOf queue index + field)
+SlotKept entries entries′ queue index = (field : ℕ) → field < entryWidth → entries′ (slotOf queue index + field) ≡ entries (slotOf queue index +
+    field)
 
 module _ (entries entries′ : ℕ → ℕ) (queue index : ℕ) (same : SlotKept entries entries′ queue index) where
   base-same : entries′ (slotOf queue index) ≡ entries (slotOf queue index)
@@ -110,7 +111,8 @@ request-delivery entries entries′ queue index value a h v same =
       ap (λ (x : Request ℕ). x .mark) h,
     )
 
-module _ {most : ℕ} {entries counters : ℕ → ℕ} {queue : ℕ} {a : Request Origin} {requests : List (Request Origin)} {deliveries : List (Delivery Origin)}
+module _ {most : ℕ} {entries counters : ℕ → ℕ} {queue : ℕ} {a : Request Origin} {requests : List (Request Origin)} {deliveries : List (Delivery
+    Origin)}
     (held : Queue most entries counters queue (a ∷ requests) deliveries) (entries′ counters′ : ℕ → ℕ) where
   -- The oldest request is fetched: its slot, with the value, is the newest delivery.
   pub queue-fetched : (b : Delivery Origin) →
@@ -135,13 +137,23 @@ module _ {most : ℕ} {entries counters : ℕ → ℕ} {queue : ℕ} {a : Reques
             (λ k p q. sym (request-same entries entries′ queue k (kept k (omega arith) (λ z. omega arith)))));
         fetched =
             map-last bareDelivery deliveries b
-            ∙ rw (f, d, slots-more (deliveryAt entries′ queue) (counters (deliveredAt queue)) (counters (fetchedAt queue)) (held .deliveredFirst), new)
+            ∙ rw (
+              f,
+              d,
+              slots-more (deliveryAt entries′ queue) (counters (deliveredAt queue)) (counters (fetchedAt queue)) (held .deliveredFirst),
+              new,
+            )
             (ap (λ l. l ++ bareDelivery b ∷ [])
             (held .fetched ∙ slots-same (deliveryAt entries queue) (deliveryAt entries′ queue) _ _
-            (λ k p q. sym (delivery-same entries entries′ queue k (kept k (omega (arith, held .deliveredFirst)) (λ z. omega (arith, held .deliveredFirst)))))));
+            (λ k p q. sym (delivery-same entries entries′ queue k (kept k (omega (arith, held .deliveredFirst)) (λ z. omega (
+              arith,
+              held
+                  .deliveredFirst,
+            )))))));
       }
 
-module _ {most : ℕ} {entries counters : ℕ → ℕ} {queue : ℕ} {requests : List (Request Origin)} {b : Delivery Origin} {deliveries : List (Delivery Origin)}
+module _ {most : ℕ} {entries counters : ℕ → ℕ} {queue : ℕ} {requests : List (Request Origin)} {b : Delivery Origin} {deliveries : List (Delivery
+    Origin)}
     (held : Queue most entries counters queue requests (b ∷ deliveries)) (counters′ : ℕ → ℕ) where
   -- The oldest delivery is written: its slot is passed.
   pub queue-delivered :
@@ -159,6 +171,7 @@ module _ {most : ℕ} {entries counters : ℕ → ℕ} {queue : ℕ} {requests :
         fetched =
             let h = rw (slots-first (deliveryAt entries queue) (counters (deliveredAt queue)) (counters (fetchedAt queue)) less) at (held .fetched) in
             let e : map bareDelivery deliveries
-            ≡ slots (deliveryAt entries queue) (counters (deliveredAt queue) + 1) (counters (fetchedAt queue) - (counters (deliveredAt queue) + 1)) = cc in
+            ≡ slots (deliveryAt entries queue) (counters (deliveredAt queue) + 1) (counters (fetchedAt queue) - (counters (deliveredAt queue) + 1)) =
+            cc in
             rw (f, d) e;
       }

@@ -14,7 +14,7 @@ use Rattle.replay.specs.declared.queues.Head.the-variants.{Slot, Empty}
 use Rattle.replay.specs.declared.step.Step as Step
 use Rattle.replay.specs.Tables.{Table, Rank, Place, entry, stored}
 use Rattle.replay.specs.Queues.{slotOf, issuedAt, fetchedAt, deliveredAt, oldestSlot}
-use Rattle.replay.specs.Steps.{Memory, Holds, Agree, Ordered, addressNumber}
+use Rattle.replay.specs.Steps.{Memory, Holds, Agree, Ordered, addressNumber, memory}
 use Rattle.replay.proofs.PopSteps.{head-empty, head-slot, fetch-empty, fetch-differs, fetch-takes, delivery-empty, delivery-differs, delivery-takes}
 
 -- The slot that a pop takes is one of the queue's.
@@ -34,7 +34,8 @@ module _ (counters : Table) (most rank queue : ℕ) (r : Rank rank) (q : queue <
 
 module _ {most : ℕ} (m : Memory) (s : Replay) (i : Item) (at : ℕ) (held : Holds most m s) (r : Rank (i .rank)) (q : i .queue < maxQueues)
     {h : Head} where
-  pub fetch-none : h ≡ oldestSlot (entry (m .counters) (i .rank) (fetchedAt (i .queue))) (entry (m .counters) (i .rank) (issuedAt (i .queue))) → h ≡ Empty →
+  pub fetch-none : h ≡ oldestSlot (entry (m .counters) (i .rank) (fetchedAt (i .queue))) (entry (m .counters) (i .rank) (issuedAt (i .queue))) → h ≡
+      Empty →
       Agree (most + 1) m m (takeFetch s at i (oldest (s .machine .requests (i .rank) (i .queue))))
       (Step.the-variants.Refused (record { number = emptyQueue; place = at }))
   fetch-none p e = rw (fetch-empty m s i at held r q (head-empty _ _ p e)) (refl, refl)
@@ -71,7 +72,7 @@ module _ {most : ℕ} (m : Memory) (s : Replay) (i : Item) (at : ℕ) (held : Ho
           entries ≡ stored (m .entries) (i .rank) (slotOf (i .queue) (entry (m .counters) (i .rank) (fetchedAt (i .queue))) + 4) value →
           counters ≡ stored (m .counters) (i .rank) (fetchedAt (i .queue)) (entry (m .counters) (i .rank) (fetchedAt (i .queue)) + 1) →
           Agree (most + 1) m
-          (record { control = m .control; registers = m .registers; cells = m .cells; entries = entries; counters = counters })
+          (memory (m .control) (m .registers) (m .cells) entries counters)
           (takeFetch s at i (oldest (s .machine .requests (i .rank) (i .queue)))) (Step.the-variants.Taken opened row group access)
       fetch-taken f few {opened} {row} o w g x es cs =
           let (e, less) = head-slot _ _ p slot in
@@ -96,7 +97,7 @@ module _ {most : ℕ} (m : Memory) (s : Replay) (i : Item) (at : ℕ) (held : Ho
           cells ≡ stored (m .cells) (i .place .rank) (i .place .cell) value →
           counters ≡ stored (m .counters) (i .rank) (deliveredAt (i .queue)) (entry (m .counters) (i .rank) (deliveredAt (i .queue)) + 1) →
           Agree (most + 1) m
-          (record { control = m .control; registers = m .registers; cells = cells; entries = m .entries; counters = counters })
+          (memory (m .control) (m .registers) cells (m .entries) counters)
           (takeDelivery s at i (oldest (s .machine .deliveries (i .rank) (i .queue)))) (Step.the-variants.Taken opened row group access)
       delivery-taken f place few {opened} {row} o w g x cl cs =
           let (e, less) = head-slot _ _ p slot in

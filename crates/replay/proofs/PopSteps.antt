@@ -21,7 +21,7 @@ use Rattle.replay.specs.declared.step.Step as Step
 use Rattle.replay.specs.Tables.{Table, Rank, Place, entry, stored}
 use Rattle.replay.specs.Queues.{Queue, slotOf, issuedAt, fetchedAt, deliveredAt, requestAt, deliveryAt, bareRequest, bareDelivery, oldestSlot}
 use Rattle.replay.specs.Tied.{Tied}
-use Rattle.replay.specs.Steps.{Memory, Holds, Follows, accessNumber, addressNumber}
+use Rattle.replay.specs.Steps.{Memory, Holds, Follows, accessNumber, addressNumber, memory}
 use Rattle.replay.proofs.OneQueue.{pops-none, pops-first}
 use Rattle.replay.proofs.Tied.{tied-later, tied-cell, tied-fetched, tied-delivered}
 use Rattle.replay.proofs.Addresses.{same-address, reads-agree, writes-agree}
@@ -86,25 +86,22 @@ module _ {most : ℕ} (m : Memory) (s : Replay) (i : Item) (at : ℕ) (held : Ho
     fetch-differs h =
         let (a, rest, l, b, _) = pops-first bareRequest (requestAt (entry (m .entries) (i .rank)) (i .queue)) (counts m i (fetchedAt (i .queue)))
         (counts m i (issuedAt (i .queue))) (s .machine .requests (i .rank) (i .queue)) (named .requested) less in
-        let e : a .source ≡ requestAt (entry (m .entries) (i .rank)) (i .queue) (counts m i (fetchedAt (i .queue))) .source = ap (λ (x : Request ℕ). x .source) b in
+        let e : a .source ≡ requestAt (entry (m .entries) (i .rank)) (i .queue) (counts m i (fetchedAt (i .queue))) .source = ap (λ (x : Request ℕ).
+        x .source) b in
         rw (oldest-some _ a rest l, reads-agree i (a .source) (s .machine .cells) value here (rw e at-place) stands, h)
 
     pub fetch-takes : (here && agrees (i .given) value) ≡ true → most ≤ maxItems → (opened row : ℕ) → s .opened ≡ opened → s .row ≡ row →
         (t : Taken) × (takeFetch s at i (oldest (s .machine .requests (i .rank) (i .queue))) ≡ ok t) ×
         Follows (most + 1)
-        (record {
-          control = m .control;
-          registers = m .registers;
-          cells = m .cells;
-          entries = stored (m .entries) (i .rank) (slotOf (i .queue) (counts m i (fetchedAt (i .queue))) + 4) value;
-          counters = stored (m .counters) (i .rank) (fetchedAt (i .queue)) (counts m i (fetchedAt (i .queue)) + 1);
-        })
+        (memory (m .control) (m .registers) (m .cells) (stored (m .entries) (i .rank) (slotOf (i .queue) (counts m i (fetchedAt (i .queue))) + 4)
+        value) (stored (m .counters) (i .rank) (fetchedAt (i .queue)) (counts m i (fetchedAt (i .queue)) + 1)))
         t opened row (entry (m .entries) (i .rank) (slotOf (i .queue) (counts m i (fetchedAt (i .queue))) + 5)) (1 + addressNumber (i .place) * 2 + 0)
     unfolding takeFetch
     fetch-takes h few opened row o w =
         let (a, rest, l, b, _) = pops-first bareRequest (requestAt (entry (m .entries) (i .rank)) (i .queue)) (counts m i (fetchedAt (i .queue)))
         (counts m i (issuedAt (i .queue))) (s .machine .requests (i .rank) (i .queue)) (named .requested) less in
-        let e : a .source ≡ requestAt (entry (m .entries) (i .rank)) (i .queue) (counts m i (fetchedAt (i .queue))) .source = ap (λ (x : Request ℕ). x .source) b in
+        let e : a .source ≡ requestAt (entry (m .entries) (i .rank)) (i .queue) (counts m i (fetchedAt (i .queue))) .source = ap (λ (x : Request ℕ).
+        x .source) b in
         let here-is : here ≡ sameAddress (i .place) (a .source) = rw e at-place in
         let (there, _) = and-true here (agrees (i .given) value) h in
         let one = same-address (i .place) (a .source) (sym here-is ∙ there) in
@@ -116,7 +113,8 @@ module _ {most : ℕ} (m : Memory) (s : Replay) (i : Item) (at : ℕ) (held : Ho
               i (a .mark) (readOf (a .source) (cellAt (s .machine .cells) (a .source))),
           rw (oldest-some _ a rest l, reads-agree i (a .source) (s .machine .cells) value here here-is stands, h),
           record {
-            held = rw v′ (tied-later (tied-fetched held (i .rank) r (i .queue) q few a rest (cellAt (s .machine .cells) (a .source)) l less) (most + 1) (omega arith));
+            held = rw v′ (tied-later (tied-fetched held (i .rank) r (i .queue) q few a rest (cellAt (s .machine .cells) (a .source)) l less) (most +
+                1) (omega arith));
             sameOpened = o;
             sameRow = w;
             sameGroup = ap (λ (x : Request ℕ). x .mark) b;
@@ -126,7 +124,8 @@ module _ {most : ℕ} (m : Memory) (s : Replay) (i : Item) (at : ℕ) (held : Ho
 
   -- A delivery that finds one.
   module _ (here : Bool) (value : ℕ) (less : counts m i (deliveredAt (i .queue)) < counts m i (fetchedAt (i .queue)))
-      (at-place : here ≡ sameAddress (i .place) (deliveryAt (entry (m .entries) (i .rank)) (i .queue) (counts m i (deliveredAt (i .queue))) .destination))
+      (at-place : here ≡ sameAddress (i .place) (deliveryAt (entry (m .entries) (i .rank)) (i .queue) (counts m i (deliveredAt (i .queue)))
+      .destination))
       (v : value ≡ entry (m .entries) (i .rank) (slotOf (i .queue) (counts m i (deliveredAt (i .queue))) + 4)) where
     pub delivery-differs : (here && agrees (i .given) value) ≡ false →
         takeDelivery s at i (oldest (s .machine .deliveries (i .rank) (i .queue))) ≡ refuse accessDiffers at
@@ -144,14 +143,10 @@ module _ {most : ℕ} (m : Memory) (s : Replay) (i : Item) (at : ℕ) (held : Ho
         s .opened ≡ opened → s .row ≡ row →
         (t : Taken) × (takeDelivery s at i (oldest (s .machine .deliveries (i .rank) (i .queue))) ≡ ok t) ×
         Follows (most + 1)
-        (record {
-          control = m .control;
-          registers = m .registers;
-          cells = stored (m .cells) (i .place .rank) (i .place .cell) value;
-          entries = m .entries;
-          counters = stored (m .counters) (i .rank) (deliveredAt (i .queue)) (counts m i (deliveredAt (i .queue)) + 1);
-        })
-        t opened row (entry (m .entries) (i .rank) (slotOf (i .queue) (counts m i (deliveredAt (i .queue))) + 5)) (1 + addressNumber (i .place) * 2 + 1)
+        (memory (m .control) (m .registers) (stored (m .cells) (i .place .rank) (i .place .cell) value) (m .entries) (stored (m .counters) (i .rank)
+        (deliveredAt (i .queue)) (counts m i (deliveredAt (i .queue)) + 1)))
+        t opened row (entry (m .entries) (i .rank) (slotOf (i .queue) (counts m i (deliveredAt (i .queue))) + 5)) (1 + addressNumber (i .place) * 2 +
+        1)
     unfolding takeDelivery
     delivery-takes h p few opened row o w =
         let (b, rest, l, d, _) = pops-first bareDelivery (deliveryAt (entry (m .entries) (i .rank)) (i .queue)) (counts m i (deliveredAt (i .queue)))
@@ -171,7 +166,8 @@ module _ {most : ℕ} (m : Memory) (s : Replay) (i : Item) (at : ℕ) (held : Ho
             held =
                 rw (v′, ← one)
                 (tied-later
-                (tied-cell (tied-delivered held (i .rank) r (i .queue) q few b rest l less) (i .place .rank) (p .rankHeld) (i .place .cell) (b .value) (p .cellHeld))
+                (tied-cell (tied-delivered held (i .rank) r (i .queue) q few b rest l less) (i .place .rank) (p .rankHeld) (i .place .cell) (b
+                .value) (p .cellHeld))
                 (most + 1) (omega arith));
             sameOpened = o;
             sameRow = w;

@@ -69,13 +69,15 @@ take-end P s at = refl
 
 -- The item at the place where the rest of a record stands is the first of the rest.
 next-item : {header : Header} {recorded : List ℕ} {place : ℕ} {rest : List Item} {item : Item} {next : ℕ} → ItemsFrom header recorded place rest →
-    0 < length rest → readItem header recorded place ≡ found item next → (others : List Item) × (rest ≡ item ∷ others) × ItemsFrom header recorded next others
+    0 < length rest → readItem header recorded place ≡ found item next → (others : List Item) × (rest ≡ item ∷ others) × ItemsFrom header recorded
+    next others
 next-item (ended p) h e = absurd (not-suc-le-zero h)
 next-item {header} {recorded} (then {items = others} e′ from) h e =
     let q = ok-injective (sym e′ ∙ e) in
     (others, ap (λ (f : Found Item). f .value ∷ others) q, subst (λ (f : Found Item). ItemsFrom header recorded (f .next) others) q from)
 
-no-fault : {header : Header} {recorded : List ℕ} {place : ℕ} {rest : List Item} {x : Refusal} → ItemsFrom header recorded place rest → 0 < length rest →
+no-fault : {header : Header} {recorded : List ℕ} {place : ℕ} {rest : List Item} {x : Refusal} → ItemsFrom header recorded place rest → 0 < length
+    rest →
     ¬ (readItem header recorded place ≡ refused x)
 no-fault (ended p) h e = absurd (not-suc-le-zero h)
 no-fault (then e′ from) h e = refused≢ok (sym e ∙ e′)
@@ -176,9 +178,11 @@ module _ {program starts : List ℕ} {header : Header} {recorded : List ℕ} {co
             sameRow = follows .sameRow;
             openedFew = omega (arith, grown .opened, here .sameOpened, here .openedFew, follows .sameOpened);
             rowFew = omega (arith, grown .row maxRanks (omega (arith, here .sameRow, here .rowFew)) (here-fits e .rankFits .last), follows .sameRow);
-            groupsTold = told-more (λ (e : Event). e .group) (here .done) (t .event) groups₀ groups at group (here .groupsTold) (here .told) g (follows .sameGroup);
+            groupsTold = told-more (λ (e : Event). e .group) (here .done) (t .event) groups₀ groups at group (here .groupsTold) (here .told) g
+                (follows .sameGroup);
             accessesTold =
-                told-more (λ (e : Event). accessNumber (e .access)) (here .done) (t .event) accesses₀ accesses at access (here .accessesTold) (here .told) a
+                told-more (λ (e : Event). accessNumber (e .access)) (here .done) (t .event) accesses₀ accesses at access (here .accessesTold) (here
+                .told) a
                 (follows .sameAccess);
           }
 

@@ -43,11 +43,13 @@ unfolding takeTransition
 transition-is P s at i t = refl
 
 -- Operands that were not refused gave an action.
-pub fine-action : (q : Result Machine.Action) {a : Action} → a ≡ answered q → verdictOf a ≡ Verdict.the-variants.Fine → (b : Machine.Action) × (q ≡ ok b)
+pub fine-action : (q : Result Machine.Action) {a : Action} → a ≡ answered q → verdictOf a ≡ Verdict.the-variants.Fine → (b : Machine.Action) × (q ≡
+    ok b)
 fine-action (ok b) e f = (b, refl)
 fine-action (refused r) e f = let f′ = rw e at f in let z : _≡_ {A = ℕ} 0 1 = cc in absurd (omega arith)
 
-pub refused-action : (q : Result Machine.Action) {a : Action} {r : Refusal} → a ≡ answered q → verdictOf a ≡ Verdict.the-variants.Refused r → q ≡ refused r
+pub refused-action : (q : Result Machine.Action) {a : Action} {r : Refusal} → a ≡ answered q → verdictOf a ≡ Verdict.the-variants.Refused r → q ≡
+    refused r
 refused-action (ok (Machine.loads x c)) e f = let f′ = rw e at f in cc
 refused-action (ok (Machine.stores c v)) e f = let f′ = rw e at f in cc
 refused-action (ok (Machine.assigns x v)) e f = let f′ = rw e at f in cc

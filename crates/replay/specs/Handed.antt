@@ -30,6 +30,10 @@ pub record Lent : Type 0 where
   pub groups : List ℕ
   pub accesses : List ℕ
 
+abbrev pub lent : (control : List ℕ) → (registers cells : Table) → (groups accesses : List ℕ) → Lent
+lent control registers cells groups accesses =
+    record { control = control; registers = registers; cells = cells; groups = groups; accesses = accesses }
+
 -- The first numbers of a list.
 abbrev pub numbersIn : (count : ℕ) → List ℕ → List ℕ
 numbersIn count numbers = map (λ i. getD numbers i 0) (numbersFrom 0 count)

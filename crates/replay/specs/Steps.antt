@@ -38,6 +38,10 @@ pub record Memory : Type 0 where
   pub entries : Table
   pub counters : Table
 
+abbrev pub memory : (control : List ℕ) → (registers cells entries counters : Table) → Memory
+memory control registers cells entries counters =
+    record { control = control; registers = registers; cells = cells; entries = entries; counters = counters }
+
 abbrev pub Holds : (most : ℕ) → Memory → Replay → Type 0
 Holds most m s = Tied most (m .control) (m .registers) (m .cells) (m .entries) (m .counters) (s .machine)
 

@@ -29,7 +29,7 @@ ghost use Rattle.model.specs.Bytes.{found};
 ghost use Rattle.model.specs.Programs.{readTransition};
 ghost use Rattle.model.specs.Replay.{afterAction, kindNumber, sameKind, takeTransition};
 ghost use Rattle.replay.specs.Tables.{Rank};
-ghost use Rattle.replay.specs.Steps.{Ordered, Stepped};
+ghost use Rattle.replay.specs.Steps.{Ordered, Stepped, memory};
 ghost use Rattle.replay.specs.Actions.{ActionFits, answered};
 ghost use Rattle.replay.specs.Commands.{HeaderFits};
 ghost use Rattle.replay.specs.Verdicts.{verdictOf};
@@ -52,20 +52,8 @@ fn take_action(
     requires { ⌜ Rank (item .rank) ⌝ ∗ ⌜ ActionFits action ⌝ ∗ ⌜ at < maxItems ⌝ ∗ ⌜ Ordered at (now counters) ⌝ ∗ ⌜ opened < 65535 ⌝ }
     ensures { λ r. ⌜ ((P : Program) (t : Transition) (a : Machine.Action) → P .header .ranks ≡ ranks → t .target ≡ target → action ≡ answered (ok a) →
         Stepped (λ s. afterAction P s at item t a) at
-        (record {
-          control = now (control .entry);
-          registers = now (registers .entry);
-          cells = now (cells .entry);
-          entries = now (entries .entry);
-          counters = now (counters .entry);
-        })
-        (record {
-          control = now (control .exit);
-          registers = now (registers .exit);
-          cells = now (cells .exit);
-          entries = now (entries .exit);
-          counters = now (counters .exit);
-        })
+        (memory (now (control .entry)) (now (registers .entry)) (now (cells .entry)) (now (entries .entry)) (now (counters .entry)))
+        (memory (now (control .exit)) (now (registers .exit)) (now (cells .exit)) (now (entries .exit)) (now (counters .exit)))
         opened row r) ⌝ }
 {
     let group = group_of(opened, item);
@@ -161,20 +149,8 @@ pub fn take_command(
     ensures { λ r. ⌜ ((P : Program) (t : Transition) (end : ℕ) → P .header ≡ header →
         readTransition header (now (program .entry)) start ≡ found t end →
         Stepped (λ s. takeTransition P s at item (some t)) at
-        (record {
-          control = now (control .entry);
-          registers = now (registers .entry);
-          cells = now (cells .entry);
-          entries = now (entries .entry);
-          counters = now (counters .entry);
-        })
-        (record {
-          control = now (control .exit);
-          registers = now (registers .exit);
-          cells = now (cells .exit);
-          entries = now (entries .exit);
-          counters = now (counters .exit);
-        })
+        (memory (now (control .entry)) (now (registers .entry)) (now (cells .entry)) (now (entries .entry)) (now (counters .entry)))
+        (memory (now (control .exit)) (now (registers .exit)) (now (cells .exit)) (now (entries .exit)) (now (counters .exit)))
         opened row r) ⌝ }
 {
     let rank = item.rank;

@@ -14,7 +14,7 @@ ghost use Prim.Native.Nat.{_<_};
 ghost use Rattle.model.specs.Limits.{maxItems};
 ghost use Rattle.model.specs.Programs.{Program};
 ghost use Rattle.model.specs.Replay.{partOf, takeItem};
-ghost use Rattle.replay.specs.Steps.{Ordered, Stepped};
+ghost use Rattle.replay.specs.Steps.{Ordered, Stepped, memory};
 ghost use Rattle.replay.specs.Commands.{HeaderFits};
 ghost use Rattle.replay.specs.Items.{ItemFits, Loaded, partCode};
 
@@ -59,20 +59,8 @@ pub fn take_item(
     requires { ⌜ ItemFits header item ⌝ ∗ ⌜ HeaderFits header ⌝ ∗ ⌜ at < maxItems ⌝ ∗ ⌜ Ordered at (now counters) ⌝ ∗ ⌜ (opened < 65535) × (row < 255) ⌝ }
     ensures { λ r. ⌜ ((P : Program) → P .header ≡ header → Loaded (now (program .entry)) (now (starts .entry)) P →
         Stepped (λ s. takeItem P s at item) at
-        (record {
-          control = now (control .entry);
-          registers = now (registers .entry);
-          cells = now (cells .entry);
-          entries = now (entries .entry);
-          counters = now (counters .entry);
-        })
-        (record {
-          control = now (control .exit);
-          registers = now (registers .exit);
-          cells = now (cells .exit);
-          entries = now (entries .exit);
-          counters = now (counters .exit);
-        })
+        (memory (now (control .entry)) (now (registers .entry)) (now (cells .entry)) (now (entries .entry)) (now (counters .entry)))
+        (memory (now (control .exit)) (now (registers .exit)) (now (cells .exit)) (now (entries .exit)) (now (counters .exit)))
         opened row r) ⌝ }
 {
     let allowed = row_allows(row, item);

@@ -8,6 +8,7 @@ use record::item::read_item;
 ghost use mathlib.Core.Path.{_≡_};
 ghost use lib.ListN.{length};
 ghost use Rattle.model.specs.Limits.{maxItems};
+ghost use Rattle.replay.specs.Steps.{memory};
 ghost use Rattle.replay.specs.Runs.{ProgramOf, ItemsOf, Begun, RanAs, ranRefusal};
 
 // All items taken: how many groups there are, and how many ranks stand in an open barrier row; or the first refusal.
@@ -46,26 +47,14 @@ pub fn take_items(
     groups: &mut [u16; 1024],
     accesses: &mut [u16; 1024],
 ) -> Ran
-    requires { ⌜ ProgramOf (now program) (now starts) header ⌝ ∗ ⌜ ItemsOf header (now recorded) count ⌝ ∗ ⌜ Begun
-        (record { control = now control; registers = now registers; cells = now cells; entries = now entries; counters = now counters }) ⌝ ∗ ⌜ (length (now groups) ≡ maxItems) × (length (now accesses) ≡ maxItems) ⌝ }
+    requires { ⌜ ProgramOf (now program) (now starts) header ⌝ ∗ ⌜ ItemsOf header (now recorded) count ⌝ ∗
+        ⌜ Begun (memory (now control) (now registers) (now cells) (now entries) (now counters)) ⌝ ∗
+        ⌜ (length (now groups) ≡ maxItems) × (length (now accesses) ≡ maxItems) ⌝ }
     ensures { λ r. ⌜ ((p : ProgramOf (now (program .entry)) (now (starts .entry)) header)
         (i : ItemsOf header (now (recorded .entry)) count)
-        (begun : Begun
-        (record {
-          control = now (control .entry);
-          registers = now (registers .entry);
-          cells = now (cells .entry);
-          entries = now (entries .entry);
-          counters = now (counters .entry);
-        })) →
+        (begun : Begun (memory (now (control .entry)) (now (registers .entry)) (now (cells .entry)) (now (entries .entry)) (now (counters .entry)))) →
         RanAs p i begun (now (groups .entry)) (now (accesses .entry))
-        (record {
-          control = now (control .exit);
-          registers = now (registers .exit);
-          cells = now (cells .exit);
-          entries = now (entries .exit);
-          counters = now (counters .exit);
-        })
+        (memory (now (control .exit)) (now (registers .exit)) (now (cells .exit)) (now (entries .exit)) (now (counters .exit)))
         (now (groups .exit)) (now (accesses .exit)) r) ⌝ }
 {
     let mut place = 2;

@@ -13,7 +13,7 @@ use record::reader::RecordRead;
 use record::reader::read_record;
 ghost use Rattle.model.specs.Checks.{accept};
 ghost use Rattle.replay.specs.Runs.{ProgramOf, ItemsOf};
-ghost use Rattle.replay.specs.Handed.{startIn, acceptItems, acceptRecord, HandsOver};
+ghost use Rattle.replay.specs.Handed.{startIn, acceptItems, acceptRecord, HandsOver, lent};
 
 // An accepted record of a readable program: the program's numbers, how many items the record has, and how many groups they form; or the refusal.
 pub enum Replayed {
@@ -41,20 +41,8 @@ fn replay_items(
     requires { ⌜ ProgramOf (now program) (now starts) header ⌝ ∗ ⌜ ItemsOf header (now recorded) count ⌝ }
     ensures { λ r. ⌜ ((p : ProgramOf (now (program .entry)) (now (starts .entry)) header) (i : ItemsOf header (now (recorded .entry)) count) →
         HandsOver (acceptItems (p .P) (startIn (now (cells .entry))) (i .items))
-        (record {
-          control = now (control .entry);
-          registers = now (registers .entry);
-          cells = now (cells .entry);
-          groups = now (groups .entry);
-          accesses = now (accesses .entry);
-        })
-        (record {
-          control = now (control .exit);
-          registers = now (registers .exit);
-          cells = now (cells .exit);
-          groups = now (groups .exit);
-          accesses = now (accesses .exit);
-        }) r) ⌝ }
+        (lent (now (control .entry)) (now (registers .entry)) (now (cells .entry)) (now (groups .entry)) (now (accesses .entry)))
+        (lent (now (control .exit)) (now (registers .exit)) (now (cells .exit)) (now (groups .exit)) (now (accesses .exit))) r) ⌝ }
 {
     let mut last_control = [0; 8];
     let mut last_registers = [[0; 16]; 8];
@@ -119,20 +107,8 @@ fn replay_record(
     requires { ⌜ ProgramOf (now program) (now starts) header ⌝ }
     ensures { λ r. ⌜ ((p : ProgramOf (now (program .entry)) (now (starts .entry)) header) →
         HandsOver (acceptRecord (p .P) (startIn (now (cells .entry))) (now (recorded .entry)))
-        (record {
-          control = now (control .entry);
-          registers = now (registers .entry);
-          cells = now (cells .entry);
-          groups = now (groups .entry);
-          accesses = now (accesses .entry);
-        })
-        (record {
-          control = now (control .exit);
-          registers = now (registers .exit);
-          cells = now (cells .exit);
-          groups = now (groups .exit);
-          accesses = now (accesses .exit);
-        }) r) ⌝ }
+        (lent (now (control .entry)) (now (registers .entry)) (now (cells .entry)) (now (groups .entry)) (now (accesses .entry)))
+        (lent (now (control .exit)) (now (registers .exit)) (now (cells .exit)) (now (groups .exit)) (now (accesses .exit))) r) ⌝ }
 {
     match read_record(header, recorded) {
         RecordRead::Readable { count } => replay_items(
@@ -164,20 +140,8 @@ pub fn replay(
     accesses: &mut [u16; 1024],
 ) -> Replayed
     ensures { λ r. ⌜ HandsOver (accept (startIn (now (cells .entry))) (now (program .entry)) (now (recorded .entry)))
-        (record {
-          control = now (control .entry);
-          registers = now (registers .entry);
-          cells = now (cells .entry);
-          groups = now (groups .entry);
-          accesses = now (accesses .entry);
-        })
-        (record {
-          control = now (control .exit);
-          registers = now (registers .exit);
-          cells = now (cells .exit);
-          groups = now (groups .exit);
-          accesses = now (accesses .exit);
-        }) r ⌝ }
+        (lent (now (control .entry)) (now (registers .entry)) (now (cells .entry)) (now (groups .entry)) (now (accesses .entry)))
+        (lent (now (control .exit)) (now (registers .exit)) (now (cells .exit)) (now (groups .exit)) (now (accesses .exit))) r ⌝ }
 {
     let read = read_program(program);
     let answer = read.answer;

@@ -76,7 +76,12 @@ returns-3 c =
     let f = rw (c .before .before .before .action3 .given .1) at (p .1 .0) in
     λ a e control s origin held o.
     let w = tells-assign a (sym (c .before .before .before .action3 .given .1) ∙ e) in
-    rw w (assign-done control (record { registers = g .registers .now; cells = g .cells .now; entries = g .entries .now; counters = g .counters .now }) (g .item) s origin held (p .0) _ _ f (c .set-register .ensures))
+    rw w (assign-done control (record {
+      registers = g .registers .now;
+      cells = g .cells .now;
+      entries = g .entries .now;
+      counters = g .counters .now;
+    }) (g .item) s origin held (p .0) _ _ f (c .set-register .ensures))
 
 returns-4 : tie.Need-returns-4
 returns-4 c =
@@ -84,7 +89,8 @@ returns-4 c =
     let p = c .before .before .pre in
     λ a e control s origin held o.
     let w = tells-pass a (sym (c .enum-told .given .1) ∙ e) in
-    rw w (pass-done control (record { registers = g .registers .now; cells = g .cells .now; entries = g .entries .now; counters = g .counters .now }) (g .item) s origin held (p .0))
+    rw w (pass-done control (record { registers = g .registers .now; cells = g .cells .now; entries = g .entries .now; counters = g .counters .now })
+    (g .item) s origin held (p .0))
 
 returns-5 : tie.Need-returns-5
 returns-5 c =
@@ -94,7 +100,8 @@ returns-5 c =
     λ a e control s origin held o.
     let w = tells-issue a (sym (c .before .before .before .before .action4 .given .1) ∙ e) in
     rw w
-    (issue-done control (record { registers = g .registers .now; cells = g .cells .now; entries = g .entries .now; counters = g .counters .now }) (g .item) s origin held (p .0) _ _ _ o f (le-of-lt (p .1 .1 .0))
+    (issue-done control (record { registers = g .registers .now; cells = g .cells .now; entries = g .entries .now; counters = g .counters .now }) (g
+    .item) s origin held (p .0) _ _ _ o f (le-of-lt (p .1 .1 .0))
     (omega (arith, p .1 .1 .0, p .1 .1 .1 (g .item .rank) _ (p .0) f .2))
     (c .issue .ensures .0) (c .issue .ensures .1))
 
@@ -104,7 +111,8 @@ returns-6 c =
     let p = c .before .before .pre in
     λ a e control s origin held o.
     let w = tells-meet a (sym (c .enum-told2 .given .1) ∙ e) in
-    rw w (meet-done control (record { registers = g .registers .now; cells = g .cells .now; entries = g .entries .now; counters = g .counters .now }) (g .item) s origin held (p .0))
+    rw w (meet-done control (record { registers = g .registers .now; cells = g .cells .now; entries = g .entries .now; counters = g .counters .now })
+    (g .item) s origin held (p .0))
 
 returns-7 : tie.Need-returns-7
 returns-7 c =

@@ -21,8 +21,10 @@ returns c =
     let a = c .before .before .before .before .before .before .before .args in
     let p = c .before .before .before .before .before .before .before .pre in
     λ most group registers entries counters control s origin held g.
-    store-done control (record { registers = registers; cells = a .cells .now; entries = entries; counters = counters }) (a .item) s origin held (p .0) (a .cell) (a .value)
-    (c .before .before .before .before .before .same-address .ensures) (c .before .before .before .before .agrees-there .ensures) (c .before .before .before .if1 .taken) (p .1)
+    store-done control (record { registers = registers; cells = a .cells .now; entries = entries; counters = counters }) (a .item) s origin held (p
+    .0) (a .cell) (a .value)
+    (c .before .before .before .before .before .same-address .ensures) (c .before .before .before .before .agrees-there .ensures) (c .before .before
+    .before .if1 .taken) (p .1)
     (c .before .set-cell .ensures) (c .write-of .ensures)
 
 returns-2 : tie.Need-returns-2
@@ -30,7 +32,8 @@ returns-2 c =
     let a = c .before .before .before .before .args in
     let p = c .before .before .before .before .pre in
     λ most group registers entries counters control s origin held g.
-    store-differs control (record { registers = registers; cells = a .cells .now; entries = entries; counters = counters }) (a .item) s origin held (p .0) (a .cell) (a .value)
+    store-differs control (record { registers = registers; cells = a .cells .now; entries = entries; counters = counters }) (a .item) s origin held
+    (p .0) (a .cell) (a .value)
     (c .before .before .same-address .ensures) (c .before .agrees-there .ensures) (c .if1 .left)
 
 pub store-spec : {M : Type 1} → statement M

@@ -1,5 +1,6 @@
 -- `replay::commands::take_action` meets its contract: the action differs, or it is done and the rank moves on.
 use borrow.Author.Needs.{needs}
+use Rattle.replay.specs.Steps.{memory}
 use Rattle.replay.proofs.CommandSteps.{action-refused, action-taken}
 use Rattle.replay.proofs.commands.take_action.Statement.{statement}
 use Rattle.replay.proofs.commands.take_action.Tie as tie
@@ -21,9 +22,16 @@ returns c =
     let g = c .before .before .before .before .before .before .before .before .args in
     let p = c .before .before .before .before .before .before .before .before .pre in
     λ P t a n x e s held o w.
-    action-refused (record { control = g .control .now; registers = g .registers .now; cells = g .cells .now; entries = g .entries .now; counters = g .counters .now }) P s (g .at) (g .item) t a held
-    (record { registers = c .before .before .act .last .1 .1 .1 .1 .0; cells = c .before .before .act .last .1 .1 .1 .1 .1 .0; entries = c .before .before .act .last .1 .1 .1 .1 .1 .1 .0; counters = c .before .before .act .last .1 .1 .1 .1 .1 .1 .1 .0 })
-    (c .before .before .act .result) (c .before .before .act .ensures a e) o w (c .before .before .before .before .before .before .before .group-of .ensures) (c .enum-told .given .1)
+    action-refused (memory (g .control .now) (g .registers .now) (g .cells .now) (g .entries .now) (g .counters .now)) P s (g .at) (g .item) t a held
+    (record {
+      registers = c .before .before .act .last .1 .1 .1 .1 .0;
+      cells = c .before .before .act .last .1 .1 .1 .1 .1 .0;
+      entries = c .before
+          .before .act .last .1 .1 .1 .1 .1 .1 .0;
+      counters = c .before .before .act .last .1 .1 .1 .1 .1 .1 .1 .0;
+    })
+    (c .before .before .act .result) (c .before .before .act .ensures a e) o w (c .before .before .before .before .before .before .before .group-of
+    .ensures) (c .enum-told .given .1)
 
 set-control-requires : tie.Need-set-control-requires
 set-control-requires c κs = search needs
@@ -39,10 +47,19 @@ returns-2 c =
     let g = c .before .before .before .before .before .before .before .before .before .before .before .before .before .args in
     let p = c .before .before .before .before .before .before .before .before .before .before .before .before .before .pre in
     λ P t a n x e s held o w.
-    action-taken (record { control = g .control .now; registers = g .registers .now; cells = g .cells .now; entries = g .entries .now; counters = g .counters .now }) P s (g .at) (g .item) t a held
-    (record { registers = c .before .before .before .before .before .before .before .act .last .1 .1 .1 .1 .0; cells = c .before .before .before .before .before .before .before .act .last .1 .1 .1 .1 .1 .0; entries = c .before .before .before .before .before .before .before .act .last .1 .1 .1 .1 .1 .1 .0; counters = c .before .before .before .before .before .before .before .act .last .1 .1 .1 .1 .1 .1 .1 .0 })
-    (c .before .before .before .before .before .before .before .act .result) (c .before .before .before .before .before .before .before .act .ensures a e) o w (c .before .before .before .before .before .before .before .before .before .before .before .before .group-of .ensures) (p .0)
-    (c .before .before .before .before .before .acted .given .1) n x (c .before .before .set-control .ensures) (c .before .opened-after .ensures) (c .row-after .ensures)
+    action-taken (memory (g .control .now) (g .registers .now) (g .cells .now) (g .entries .now) (g .counters .now)) P s (g .at) (g .item) t a held
+    (record {
+      registers = c .before .before .before .before .before .before .before .act .last .1 .1 .1 .1 .0;
+      cells = c .before .before .before
+          .before .before .before .before .act .last .1 .1 .1 .1 .1 .0;
+      entries = c .before .before .before .before .before .before .before .act .last
+          .1 .1 .1 .1 .1 .1 .0;
+      counters = c .before .before .before .before .before .before .before .act .last .1 .1 .1 .1 .1 .1 .1 .0;
+    })
+    (c .before .before .before .before .before .before .before .act .result) (c .before .before .before .before .before .before .before .act .ensures
+    a e) o w (c .before .before .before .before .before .before .before .before .before .before .before .before .group-of .ensures) (p .0)
+    (c .before .before .before .before .before .acted .given .1) n x (c .before .before .set-control .ensures) (c .before .opened-after .ensures) (c
+    .row-after .ensures)
 
 pub take-action-spec : {M : Type 1} → statement M
 take-action-spec =

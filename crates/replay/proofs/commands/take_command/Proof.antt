@@ -2,6 +2,7 @@
 use mathlib.Core.Path.{ap}
 use Rattle.model.specs.declared.Header.{Header}
 use borrow.Author.Tests.{not-true, not-false}
+use Rattle.replay.specs.Steps.{memory}
 use Rattle.replay.proofs.TransitionSteps.{target-is, state-refused, kind-refused, operands-refused, action-follows}
 use borrow.Author.Needs.{needs}
 use Rattle.replay.proofs.commands.take_command.Statement.{statement}
@@ -21,8 +22,10 @@ returns c =
     let g = c .before .before .before .before .before .before .before .args in
     let p = c .before .before .before .before .before .before .before .pre in
     λ P t end e read s held o w.
-    state-refused (record { control = g .control .now; registers = g .registers .now; cells = g .cells .now; entries = g .entries .now; counters = g .counters .now }) P s (g .at) (g .item) t held (p .0) e (p .1 .0 .registersFit) (g .program .now) (g .start) read
-    (c .before .before .before .before .registers-of .ensures) (c .before .before .before .command-at .result) (c .before .before .before .command-at .ensures .0) (c .before .control-of .ensures) (c .if1 .taken)
+    state-refused (memory (g .control .now) (g .registers .now) (g .cells .now) (g .entries .now) (g .counters .now)) P s (g .at) (g .item) t held (p
+    .0) e (p .1 .0 .registersFit) (g .program .now) (g .start) read
+    (c .before .before .before .before .registers-of .ensures) (c .before .before .before .command-at .result) (c .before .before .before .command-at
+    .ensures .0) (c .before .control-of .ensures) (c .if1 .taken)
 
 same-kind-requires : tie.Need-same-kind-requires
 same-kind-requires c κs = search needs
@@ -32,8 +35,11 @@ returns-2 c =
     let g = c .before .before .before .before .before .before .before .before .before .args in
     let p = c .before .before .before .before .before .before .before .before .before .pre in
     λ P t end e read s held o w.
-    kind-refused (record { control = g .control .now; registers = g .registers .now; cells = g .cells .now; entries = g .entries .now; counters = g .counters .now }) P s (g .at) (g .item) t held (p .0) e (p .1 .0 .registersFit) (g .program .now) (g .start) read
-    (c .before .before .before .before .before .before .registers-of .ensures) (c .before .before .before .before .before .command-at .result) (c .before .before .before .before .before .command-at .ensures .0) (c .before .before .before .control-of .ensures) (c .before .before .if1 .left) (c .before .same-kind .ensures) (not-true _ (c .if2 .taken))
+    kind-refused (memory (g .control .now) (g .registers .now) (g .cells .now) (g .entries .now) (g .counters .now)) P s (g .at) (g .item) t held (p
+    .0) e (p .1 .0 .registersFit) (g .program .now) (g .start) read
+    (c .before .before .before .before .before .before .registers-of .ensures) (c .before .before .before .before .before .command-at .result) (c
+    .before .before .before .before .before .command-at .ensures .0) (c .before .before .before .control-of .ensures) (c .before .before .if1
+    .left) (c .before .same-kind .ensures) (not-true _ (c .if2 .taken))
 
 action-of-requires : tie.Need-action-of-requires
 action-of-requires c κs = search needs
@@ -49,8 +55,13 @@ returns-3 c =
     let g = c .before .before .before .before .before .before .before .before .before .before .before .before .before .before .args in
     let p = c .before .before .before .before .before .before .before .before .before .before .before .before .before .before .pre in
     λ P t end e read s held o w.
-    operands-refused (record { control = g .control .now; registers = g .registers .now; cells = g .cells .now; entries = g .entries .now; counters = g .counters .now }) P s (g .at) (g .item) t held (p .0) e (p .1 .0 .registersFit) (g .program .now) (g .start) read
-    (c .before .before .before .before .before .before .before .before .before .before .before .registers-of .ensures) (c .before .before .before .before .before .before .before .before .before .before .command-at .result) (c .before .before .before .before .before .before .before .before .before .before .command-at .ensures .0) (c .before .before .before .before .before .before .before .before .control-of .ensures) (c .before .before .before .before .before .before .before .if1 .left) (c .before .before .before .before .before .before .same-kind .ensures) (not-false _ (c .before .before .before .before .before .if2 .left))
+    operands-refused (memory (g .control .now) (g .registers .now) (g .cells .now) (g .entries .now) (g .counters .now)) P s (g .at) (g .item) t held
+    (p .0) e (p .1 .0 .registersFit) (g .program .now) (g .start) read
+    (c .before .before .before .before .before .before .before .before .before .before .before .registers-of .ensures) (c .before .before .before
+    .before .before .before .before .before .before .before .command-at .result) (c .before .before .before .before .before .before .before
+    .before .before .before .command-at .ensures .0) (c .before .before .before .before .before .before .before .before .control-of .ensures) (c
+    .before .before .before .before .before .before .before .if1 .left) (c .before .before .before .before .before .before .same-kind .ensures)
+    (not-false _ (c .before .before .before .before .before .if2 .left))
     (c .before .before .before .before .action-of .ensures .0) (c .before .before .before .judge .ensures) (c .before .operands .given .1)
 
 enum-told : tie.Need-enum-told
@@ -61,17 +72,33 @@ take-action-requires c κs = search needs
 
 returns-4 : tie.Need-returns-4
 returns-4 c =
-    let g = c .before .before .before .before .before .before .before .before .before .before .before .before .before .before .before .before .before .before .before .args in
-    let p = c .before .before .before .before .before .before .before .before .before .before .before .before .before .before .before .before .before .before .before .pre in
+    let g = c .before .before .before .before .before .before .before .before .before .before .before .before .before .before .before .before .before
+    .before .before .args in
+    let p = c .before .before .before .before .before .before .before .before .before .before .before .before .before .before .before .before .before
+    .before .before .pre in
     λ P t end e read s held o w.
-    action-follows (record { control = g .control .now; registers = g .registers .now; cells = g .cells .now; entries = g .entries .now; counters = g .counters .now }) P s (g .at) (g .item) t held (p .0) e (p .1 .0 .registersFit) (g .program .now) (g .start) read
-    (c .before .before .before .before .before .before .before .before .before .before .before .before .before .before .before .before .registers-of .ensures) (c .before .before .before .before .before .before .before .before .before .before .before .before .before .before .before .command-at .result) (c .before .before .before .before .before .before .before .before .before .before .before .before .before .before .before .command-at .ensures .0) (c .before .before .before .before .before .before .before .before .before .before .before .before .before .control-of .ensures) (c .before .before .before .before .before .before .before .before .before .before .before .before .if1 .left) (c .before .before .before .before .before .before .before .before .before .before .before .same-kind .ensures) (not-false _ (c .before .before .before .before .before .before .before .before .before .before .if2 .left))
-    (c .before .before .before .before .before .before .before .before .before .action-of .ensures .0) (c .before .before .before .before .before .before .before .before .judge .ensures) (c .before .before .before .before .before .before .enum-told .given .1)
-    (record { control = c .take-action .last .1 .1 .1 .1 .1 .1 .1 .0; registers = c .take-action .last .1 .1 .1 .1 .1 .1 .1 .1 .0; cells = c .take-action .last .1 .1 .1 .1 .1 .1 .1 .1 .1 .0; entries = c .take-action .last .1 .1 .1 .1 .1 .1 .1 .1 .1 .1 .0; counters = c .take-action .last .1 .1 .1 .1 .1 .1 .1 .1 .1 .1 .1 .0 })
+    action-follows (memory (g .control .now) (g .registers .now) (g .cells .now) (g .entries .now) (g .counters .now)) P s (g .at) (g .item) t held
+    (p .0) e (p .1 .0 .registersFit) (g .program .now) (g .start) read
+    (c .before .before .before .before .before .before .before .before .before .before .before .before .before .before .before .before .registers-of
+    .ensures) (c .before .before .before .before .before .before .before .before .before .before .before .before .before .before .before
+    .command-at .result) (c .before .before .before .before .before .before .before .before .before .before .before .before .before .before
+    .before .command-at .ensures .0) (c .before .before .before .before .before .before .before .before .before .before .before .before .before
+    .control-of .ensures) (c .before .before .before .before .before .before .before .before .before .before .before .before .if1 .left) (c
+    .before .before .before .before .before .before .before .before .before .before .before .same-kind .ensures) (not-false _ (c .before .before
+    .before .before .before .before .before .before .before .before .if2 .left))
+    (c .before .before .before .before .before .before .before .before .before .action-of .ensures .0) (c .before .before .before .before .before
+    .before .before .before .judge .ensures) (c .before .before .before .before .before .before .enum-told .given .1)
+    (memory (c .take-action .last .1 .1 .1 .1 .1 .1 .1 .0) (c .take-action .last .1 .1 .1 .1 .1 .1 .1 .1 .0) (c .take-action .last .1 .1 .1 .1 .1 .1
+    .1 .1 .1 .0) (c .take-action .last .1 .1 .1 .1 .1 .1 .1 .1 .1 .1 .0) (c .take-action .last .1 .1 .1 .1 .1 .1 .1 .1 .1 .1 .1 .0))
     (c .take-action .result)
     (λ b d. c .take-action .ensures P t b (ap (λ (h : Header). h .ranks) e)
-    (target-is (record { control = g .control .now; registers = g .registers .now; cells = g .cells .now; entries = g .entries .now; counters = g .counters .now }) P s (g .at) (g .item) t held (p .0) e (p .1 .0 .registersFit) (g .program .now) (g .start) read
-    (c .before .before .before .before .before .before .before .before .before .before .before .before .before .before .before .before .registers-of .ensures) (c .before .before .before .before .before .before .before .before .before .before .before .before .before .before .before .command-at .result) (c .before .before .before .before .before .before .before .before .before .before .before .before .before .before .before .command-at .ensures .0) (c .before .before .before .before .before .before .before .before .before .before .before .before .before .control-of .ensures))
+    (target-is (memory (g .control .now) (g .registers .now) (g .cells .now) (g .entries .now) (g .counters .now)) P s (g .at) (g .item) t held (p
+    .0) e (p .1 .0 .registersFit) (g .program .now) (g .start) read
+    (c .before .before .before .before .before .before .before .before .before .before .before .before .before .before .before .before .registers-of
+    .ensures) (c .before .before .before .before .before .before .before .before .before .before .before .before .before .before .before
+    .command-at .result) (c .before .before .before .before .before .before .before .before .before .before .before .before .before .before
+    .before .command-at .ensures .0) (c .before .before .before .before .before .before .before .before .before .before .before .before .before
+    .control-of .ensures))
     d s held o w)
 
 pub take-command-spec : {M : Type 1} → statement M

@@ -45,7 +45,8 @@ loop-again c =
     let z : 0 + atLoop .loop .cell ≡ atLoop .loop .cell = omega arith in (
       omega (arith, t),
       ap (λ l. set l (atLoop .loop .cell) (getD (atLoop .before .args .row .now) (atLoop .loop .cell) 0)) (atLoop .loop .inv .1)
-          ∙ ap (λ n. set (filledTo (λ i. getD (atLoop .before .args .row .now) i 0) 0 (replicate maxCells 0) (atLoop .loop .cell)) (atLoop .loop .cell)
+          ∙ ap (λ n. set (filledTo (λ i. getD (atLoop .before .args .row .now) i 0) 0 (replicate maxCells 0) (atLoop .loop .cell)) (atLoop .loop
+          .cell)
           (getD (atLoop .before .args .row .now) n 0)) (sym z)
           ∙ filled-more (λ i. getD (atLoop .before .args .row .now) i 0) 0 (replicate maxCells 0) (atLoop .loop .cell)
           (omega (arith, t, length-replicate {A = ℕ} maxCells 0)),

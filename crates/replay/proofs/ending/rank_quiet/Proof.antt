@@ -30,7 +30,8 @@ is-quiet-requires c κs =
 returns : tie.Need-returns Inv-loop μ-loop
 returns c =
     let atLoop = c .before .before .before in
-    sym (sym (atLoop .loop .inv .1) ∙ every-fails _ _ _ (omega (arith, c .before .before .loop-test .taken)) (sym (c .before .is-quiet .ensures) ∙ not-true _ (c .if1 .taken)))
+    sym (sym (atLoop .loop .inv .1) ∙ every-fails _ _ _ (omega (arith, c .before .before .loop-test .taken)) (sym (c .before .is-quiet .ensures) ∙
+    not-true _ (c .if1 .taken)))
 
 add-queue : tie.Need-add-queue Inv-loop μ-loop
 add-queue c = search needs
@@ -41,11 +42,15 @@ loop-less c = omega (arith, c .before .before .loop-test .taken)
 loop-again : tie.Need-loop-again Inv-loop μ-loop
 loop-again c =
     let atLoop = c .before .before .before in
-    let t = c .before .before .loop-test .taken in
-    (omega (arith, t), sym (every-on (queueQuiet (atLoop .before .args .counters .now) (atLoop .before .args .rank)) _ _ t (sym (c .before .is-quiet .ensures) ∙ not-false _ (c .if1 .left))) ∙ atLoop .loop .inv .1)
+    let t = c .before .before .loop-test .taken in (
+      omega (arith, t),
+      sym (every-on (queueQuiet (atLoop .before .args .counters .now) (atLoop .before .args .rank)) _ _ t (sym (c .before .is-quiet
+          .ensures) ∙ not-false _ (c .if1 .left))) ∙ atLoop .loop .inv .1,
+    )
 
 returns-2 : tie.Need-returns-2 Inv-loop μ-loop
-returns-2 c = sym (every-over (queueQuiet (c .before .before .args .counters .now) (c .before .before .args .rank)) _ _ (c .loop-test .left)) ∙ c .before .loop .inv .1
+returns-2 c = sym (every-over (queueQuiet (c .before .before .args .counters .now) (c .before .before .args .rank)) _ _ (c .loop-test .left)) ∙ c
+    .before .loop .inv .1
 
 pub rank-quiet-spec : {M : Type 1} → statement M
 rank-quiet-spec = tie.close (tie.spec Inv-loop μ-loop loop-holds is-quiet-requires returns add-queue loop-less loop-again returns-2)

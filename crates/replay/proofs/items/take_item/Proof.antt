@@ -3,6 +3,7 @@ use borrow.Author.Tests.{not-true, not-false}
 use Prim.Native.Nat.{_+_, _<_}
 use native.Mathlib.Omega.{arith}
 use Rattle.model.specs.Replay.{partOf}
+use Rattle.replay.specs.Steps.{memory}
 use Rattle.replay.specs.declared.step.Step as Step
 use Rattle.replay.proofs.ItemSteps.{part-command, part-fetch, part-delivery, row-refused, command-step, fetch-step, delivery-step, command-start}
 use borrow.Author.Needs.{needs}
@@ -17,7 +18,12 @@ returns c =
     let g = c .before .before .before .args in
     let p = c .before .before .before .pre in
     λ P e loaded s held o w.
-    row-refused (g .at + 1) (record { control = g .control .now; registers = g .registers .now; cells = g .cells .now; entries = g .entries .now; counters = g .counters .now }) (record { control = g .control .now; registers = g .registers .now; cells = g .cells .now; entries = g .entries .now; counters = g .counters .now }) (Step.the-variants.Refused (record { number = 12; place = g .at })) P s (g .at) (g .item) w
+    row-refused (g .at + 1) (memory (g .control .now) (g .registers .now) (g .cells .now) (g .entries .now) (g .counters .now)) (memory (g .control
+    .now) (g .registers .now) (g .cells .now) (g .entries .now) (g .counters .now)) (Step.the-variants.Refused (record {
+      number = 12;
+      place = g
+          .at;
+    })) P s (g .at) (g .item) w
     (c .before .row-allows .ensures) (not-true _ (c .if1 .taken))
 
 part-of-requires : tie.Need-part-of-requires
@@ -34,7 +40,12 @@ mul-start c =
     let g = c .before .before .before .before .before .before .before .args in
     let p = c .before .before .before .before .before .before .before .pre in
     let l : g .item .transition < 128 =
-    omega (arith, p .0 .commands (part-command (partOf (g .item .kind)) (c .before .before .before .part-of .ensures) (c .before .enum-told .given .1)), p .1 .0 .transitionsFit) in
+    omega (
+      arith,
+      p .0 .commands (part-command (partOf (g .item .kind)) (c .before .before .before .part-of .ensures) (c .before .enum-told .given
+          .1)),
+      p .1 .0 .transitionsFit,
+    ) in
     search needs
 
 element-copy-out-start : tie.Need-element-copy-out-start
@@ -42,7 +53,12 @@ element-copy-out-start c =
     let g = c .before .before .before .before .before .before .before .args in
     let p = c .before .before .before .before .before .before .before .pre in
     let l : g .item .transition < 128 =
-    omega (arith, p .0 .commands (part-command (partOf (g .item .kind)) (c .before .before .before .part-of .ensures) (c .before .enum-told .given .1)), p .1 .0 .transitionsFit) in
+    omega (
+      arith,
+      p .0 .commands (part-command (partOf (g .item .kind)) (c .before .before .before .part-of .ensures) (c .before .enum-told .given
+          .1)),
+      p .1 .0 .transitionsFit,
+    ) in
     l
 
 take-command-requires : tie.Need-take-command-requires
@@ -58,7 +74,8 @@ take-fetch-requires : tie.Need-take-fetch-requires
 take-fetch-requires c κs =
     let g = c .before .before .before .before .before .before .before .before .before .args in
     let p = c .before .before .before .before .before .before .before .before .before .pre in
-    let (queue, place) = p .0 .fetches (part-fetch (partOf (g .item .kind)) (c .before .before .before .before .before .part-of .ensures) (c .before .before .before .enum-told2 .given .1)) in
+    let (queue, place) = p .0 .fetches (part-fetch (partOf (g .item .kind)) (c .before .before .before .before .before .part-of .ensures) (c .before
+    .before .before .enum-told2 .given .1)) in
     (p .0 .rankFits, (queue, (place, (p .1 .1 .0, p .1 .1 .1 .0))))
 
 enum-told-3 : tie.Need-enum-told-3
@@ -68,7 +85,8 @@ take-delivery-requires : tie.Need-take-delivery-requires
 take-delivery-requires c κs =
     let g = c .before .before .before .before .before .before .before .before .before .args in
     let p = c .before .before .before .before .before .before .before .before .before .pre in
-    let (queue, place) = p .0 .delivers (part-delivery (partOf (g .item .kind)) (c .before .before .before .before .before .part-of .ensures) (c .before .before .before .enum-told3 .given .1)) in
+    let (queue, place) = p .0 .delivers (part-delivery (partOf (g .item .kind)) (c .before .before .before .before .before .part-of .ensures) (c
+    .before .before .before .enum-told3 .given .1)) in
     (p .0 .rankFits, (queue, (place, (p .1 .1 .0, p .1 .1 .1 .0))))
 
 returns-2 : tie.Need-returns-2
@@ -76,11 +94,15 @@ returns-2 c =
     let g = c .before .before .before .before .before .before .before .before .before .before .before .before .before .before .args in
     let p = c .before .before .before .before .before .before .before .before .before .before .before .before .before .before .pre in
     λ P e loaded s held o w.
-    let k = part-command (partOf (g .item .kind)) (c .before .before .before .before .before .before .before .before .before .before .part-of .ensures) (c .before .before .before .before .before .before .before .before .enum-told .given .1) in
+    let k = part-command (partOf (g .item .kind)) (c .before .before .before .before .before .before .before .before .before .before .part-of
+    .ensures) (c .before .before .before .before .before .before .before .before .enum-told .given .1) in
     let (t, end, found, read) = command-start P (g .program .now) (g .starts .now) (g .item .transition) e loaded (p .0 .commands k) in
-    command-step (g .at + 1) (record { control = g .control .now; registers = g .registers .now; cells = g .cells .now; entries = g .entries .now; counters = g .counters .now })
-    (record { control = c .take-command .last .1 .1 .1 .1 .1 .1 .1 .0; registers = c .take-command .last .1 .1 .1 .1 .1 .1 .1 .1 .0; cells = c .take-command .last .1 .1 .1 .1 .1 .1 .1 .1 .1 .0; entries = c .take-command .last .1 .1 .1 .1 .1 .1 .1 .1 .1 .1 .0; counters = c .take-command .last .1 .1 .1 .1 .1 .1 .1 .1 .1 .1 .1 .0 })
-    (c .take-command .result) P s (g .at) (g .item) w (c .before .before .before .before .before .before .before .before .before .before .before .before .row-allows .ensures) (not-false _ (c .before .before .before .before .before .before .before .before .before .before .before .if1 .left)) k t found
+    command-step (g .at + 1) (memory (g .control .now) (g .registers .now) (g .cells .now) (g .entries .now) (g .counters .now))
+    (memory (c .take-command .last .1 .1 .1 .1 .1 .1 .1 .0) (c .take-command .last .1 .1 .1 .1 .1 .1 .1 .1 .0) (c .take-command .last .1 .1 .1 .1 .1
+    .1 .1 .1 .1 .0) (c .take-command .last .1 .1 .1 .1 .1 .1 .1 .1 .1 .1 .0) (c .take-command .last .1 .1 .1 .1 .1 .1 .1 .1 .1 .1 .1 .0))
+    (c .take-command .result) P s (g .at) (g .item) w (c .before .before .before .before .before .before .before .before .before .before .before
+    .before .row-allows .ensures) (not-false _ (c .before .before .before .before .before .before .before .before .before .before .before .if1
+    .left)) k t found
     (c .take-command .ensures P t end e read s held o w)
 
 returns-3 : tie.Need-returns-3
@@ -88,10 +110,12 @@ returns-3 c =
     let g = c .before .before .before .before .before .before .before .before .before .before .args in
     let p = c .before .before .before .before .before .before .before .before .before .before .pre in
     λ P e loaded s held o w.
-    let k = part-fetch (partOf (g .item .kind)) (c .before .before .before .before .before .before .part-of .ensures) (c .before .before .before .before .enum-told2 .given .1) in
-    fetch-step (g .at + 1) (record { control = g .control .now; registers = g .registers .now; cells = g .cells .now; entries = g .entries .now; counters = g .counters .now })
-    (record { control = g .control .now; registers = g .registers .now; cells = g .cells .now; entries = c .take-fetch .last .1 .1 .1 .1 .1 .0; counters = c .take-fetch .last .1 .1 .1 .1 .1 .1 .0 })
-    (c .take-fetch .result) P s (g .at) (g .item) w (c .before .before .before .before .before .before .before .before .row-allows .ensures) (not-false _ (c .before .before .before .before .before .before .before .if1 .left)) k
+    let k = part-fetch (partOf (g .item .kind)) (c .before .before .before .before .before .before .part-of .ensures) (c .before .before .before
+    .before .enum-told2 .given .1) in
+    fetch-step (g .at + 1) (memory (g .control .now) (g .registers .now) (g .cells .now) (g .entries .now) (g .counters .now))
+    (memory (g .control .now) (g .registers .now) (g .cells .now) (c .take-fetch .last .1 .1 .1 .1 .1 .0) (c .take-fetch .last .1 .1 .1 .1 .1 .1 .0))
+    (c .take-fetch .result) P s (g .at) (g .item) w (c .before .before .before .before .before .before .before .before .row-allows .ensures)
+    (not-false _ (c .before .before .before .before .before .before .before .if1 .left)) k
     (c .take-fetch .ensures (g .control .now) (g .registers .now) s held o w)
 
 returns-4 : tie.Need-returns-4
@@ -99,10 +123,13 @@ returns-4 c =
     let g = c .before .before .before .before .before .before .before .before .before .before .args in
     let p = c .before .before .before .before .before .before .before .before .before .before .pre in
     λ P e loaded s held o w.
-    let k = part-delivery (partOf (g .item .kind)) (c .before .before .before .before .before .before .part-of .ensures) (c .before .before .before .before .enum-told3 .given .1) in
-    delivery-step (g .at + 1) (record { control = g .control .now; registers = g .registers .now; cells = g .cells .now; entries = g .entries .now; counters = g .counters .now })
-    (record { control = g .control .now; registers = g .registers .now; cells = c .take-delivery .last .1 .1 .1 .1 .0; entries = g .entries .now; counters = c .take-delivery .last .1 .1 .1 .1 .1 .1 .0 })
-    (c .take-delivery .result) P s (g .at) (g .item) w (c .before .before .before .before .before .before .before .before .row-allows .ensures) (not-false _ (c .before .before .before .before .before .before .before .if1 .left)) k
+    let k = part-delivery (partOf (g .item .kind)) (c .before .before .before .before .before .before .part-of .ensures) (c .before .before .before
+    .before .enum-told3 .given .1) in
+    delivery-step (g .at + 1) (memory (g .control .now) (g .registers .now) (g .cells .now) (g .entries .now) (g .counters .now))
+    (memory (g .control .now) (g .registers .now) (c .take-delivery .last .1 .1 .1 .1 .0) (g .entries .now) (c .take-delivery .last .1 .1 .1 .1 .1 .1
+    .0))
+    (c .take-delivery .result) P s (g .at) (g .item) w (c .before .before .before .before .before .before .before .before .row-allows .ensures)
+    (not-false _ (c .before .before .before .before .before .before .before .if1 .left)) k
     (c .take-delivery .ensures (g .control .now) (g .registers .now) s held o w)
 
 pub take-item-spec : {M : Type 1} → statement M

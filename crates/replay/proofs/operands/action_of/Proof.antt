@@ -76,13 +76,19 @@ returns-4 c =
 
 returns-5 : tie.Need-returns-5
 returns-5 c =
-    let g = c .before .before .before .before .args in
-    (c .read .ensures .0 ∙ ap readAction (c .before .transfer .ensures .0) ∙ sym (is-read (g .header) (g .rank) (g .at) (g .command) (c .before .before .enum-told5 .given .1)), c .read .ensures .1)
+    let g = c .before .before .before .before .args in (
+      c .read .ensures .0 ∙ ap readAction (c .before .transfer .ensures .0) ∙ sym (is-read (g .header) (g .rank) (g .at) (g .command) (c .before
+          .before .enum-told5 .given .1)),
+      c .read .ensures .1,
+    )
 
 returns-6 : tie.Need-returns-6
 returns-6 c =
-    let g = c .before .before .before .before .args in
-    (c .write .ensures .0 ∙ ap writeAction (c .before .transfer2 .ensures .0) ∙ sym (is-write (g .header) (g .rank) (g .at) (g .command) (c .before .before .enum-told6 .given .1)), c .write .ensures .1)
+    let g = c .before .before .before .before .args in (
+      c .write .ensures .0 ∙ ap writeAction (c .before .transfer2 .ensures .0) ∙ sym (is-write (g .header) (g .rank) (g .at) (g .command) (c .before
+          .before .enum-told6 .given .1)),
+      c .write .ensures .1,
+    )
 
 returns-7 : tie.Need-returns-7
 returns-7 c =

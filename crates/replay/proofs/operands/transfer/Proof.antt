@@ -18,19 +18,31 @@ returns c =
 
 returns-2 : tie.Need-returns-2
 returns-2 c =
-    let g = c .before .before .before .before .args in
-    (rw (remote-low (g .header) (g .rank) (g .at) (g .command .e1) (g .command .e2) (g .command .e3) (g .command .e4) (c .before .if1 .left) (c .if2 .taken)), tt)
+    let g = c .before .before .before .before .args in (
+      rw (remote-low (g .header) (g .rank) (g .at) (g .command .e1) (g .command .e2) (g .command .e3) (g .command .e4) (c .before .if1 .left) (c .if2
+          .taken)),
+      tt,
+    )
 
 returns-3 : tie.Need-returns-3
 returns-3 c =
-    let g = c .before .before .before .before .before .args in
-    (rw (remote-high (g .header) (g .rank) (g .at) (g .command .e1) (g .command .e2) (g .command .e3) (g .command .e4) (c .before .before .if1 .left) (c .before .if2 .left) (omega (arith, c .if3 .taken, c .before .before .before .before .wide .ensures))), tt)
+    let g = c .before .before .before .before .before .args in (
+      rw (remote-high (g .header) (g .rank) (g .at) (g .command .e1) (g .command .e2) (g .command .e3) (g .command .e4) (c .before .before .if1 .left)
+          (c .before .if2 .left) (omega (arith, c .if3 .taken, c .before .before .before .before .wide .ensures))),
+      tt,
+    )
 
 returns-4 : tie.Need-returns-4
 returns-4 c =
     let g = c .before .before .before .before .before .before .args in (
       rw
-          (cell-outside (g .header) (g .rank) (g .at) (g .command .e1) (g .command .e2) (g .command .e3) (g .command .e4) (c .before .before .before .if1 .left) (c .before .before .if2 .left) (omega (arith, c .before .if3 .left, c .before .before .before .before .before .wide .ensures)) (c .if4 .taken)),
+          (cell-outside (g .header) (g .rank) (g .at) (g .command .e1) (g .command .e2) (g .command .e3) (g .command .e4) (c .before .before .before
+          .if1 .left) (c .before .before .if2 .left) (omega (
+            arith,
+            c .before .if3 .left,
+            c .before .before .before .before .before .wide
+                .ensures,
+          )) (c .if4 .taken)),
       tt,
     )
 
@@ -38,7 +50,13 @@ returns-5 : tie.Need-returns-5
 returns-5 c =
     let g = c .before .before .before .before .before .before .before .args in (
       rw
-          (queue-outside (g .header) (g .rank) (g .at) (g .command .e1) (g .command .e2) (g .command .e3) (g .command .e4) (c .before .before .before .before .if1 .left) (c .before .before .before .if2 .left) (omega (arith, c .before .before .if3 .left, c .before .before .before .before .before .before .wide .ensures)) (c .before .if4 .left)
+          (queue-outside (g .header) (g .rank) (g .at) (g .command .e1) (g .command .e2) (g .command .e3) (g .command .e4) (c .before .before .before
+          .before .if1 .left) (c .before .before .before .if2 .left) (omega (
+            arith,
+            c .before .before .if3 .left,
+            c .before .before .before
+                .before .before .before .wide .ensures,
+          )) (c .before .if4 .left)
           (omega (arith, c .if5 .taken, c .before .before .before .before .before .wide2 .ensures))),
       tt,
     )
@@ -53,9 +71,21 @@ returns-6 : tie.Need-returns-6
 returns-6 c =
     let g = c .before .before .before .before .before .before .before .args in (
       rw
-          (operands-inside (g .header) (g .rank) (g .at) (g .command .e1) (g .command .e2) (g .command .e3) (g .command .e4) (c .before .before .before .before .if1 .left) (c .before .before .before .if2 .left) (omega (arith, c .before .before .if3 .left, c .before .before .before .before .before .before .wide .ensures)) (c .before .if4 .left)
+          (operands-inside (g .header) (g .rank) (g .at) (g .command .e1) (g .command .e2) (g .command .e3) (g .command .e4) (c .before .before
+          .before .before .if1 .left) (c .before .before .before .if2 .left) (omega (
+            arith,
+            c .before .before .if3 .left,
+            c .before .before
+                .before .before .before .before .wide .ensures,
+          )) (c .before .if4 .left)
           (omega (arith, c .if5 .left, c .before .before .before .before .before .wide2 .ensures))),
-      omega (arith, c .if5 .left, c .before .before .before .before .before .wide2 .ensures, c .before .before .before .before .before .before .before .pre .queuesFit),
+      omega (
+        arith,
+        c .if5 .left,
+        c .before .before .before .before .before .wide2 .ensures,
+        c .before .before .before .before .before .before
+            .before .pre .queuesFit,
+      ),
     )
 
 pub transfer-spec : {M : Type 1} → statement M

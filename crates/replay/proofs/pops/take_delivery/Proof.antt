@@ -2,6 +2,7 @@
 use borrow.Author.Needs.{needs}
 use native.Mathlib.Omega.{arith}
 use native.Mathlib.Nat.{le-of-lt}
+use Rattle.replay.specs.Steps.{memory}
 use Rattle.replay.proofs.PopAgree.{delivery-slot, delivery-none, delivery-refused, delivery-taken}
 use Rattle.replay.proofs.pops.take_delivery.Statement.{statement}
 use Rattle.replay.proofs.pops.take_delivery.Tie as tie
@@ -20,7 +21,7 @@ returns c =
     let a = c .before .before .before .before .before .args in
     let p = c .before .before .before .before .before .pre in
     λ control registers s held o w.
-    delivery-none (record { control = control; registers = registers; cells = a .cells .now; entries = a .entries .now; counters = a .counters .now }) s (a .item) (a .at) held (p .0) (p .1 .0)
+    delivery-none (memory control registers (a .cells .now) (a .entries .now) (a .counters .now)) s (a .item) (a .at) held (p .0) (p .1 .0)
     (c .before .before .oldest-delivery .ensures) (c .enum-told .given .1)
 
 value-at-requires : tie.Need-value-at-requires
@@ -47,7 +48,8 @@ group-at-requires c κs =
     let a = c .before .before .before .before .before .before .before .before .before .before .args in
     let p = c .before .before .before .before .before .before .before .before .before .before .pre in
     let (fits, _) = delivery-slot (a .counters .now) (a .at) (a .item .rank) (a .item .queue) (p .0) (p .1 .0) (p .1 .1 .1 .0) (p .1 .1 .1 .1)
-    (c .before .before .before .before .before .head .given .1) (c .before .before .before .before .before .before .before .oldest-delivery .ensures) in
+    (c .before .before .before .before .before .head .given .1) (c .before .before .before .before .before .before .before .oldest-delivery .ensures)
+    in
     (p .0, (p .1 .0, fits))
 
 deliver-requires : tie.Need-deliver-requires
@@ -55,32 +57,40 @@ deliver-requires c κs =
     let a = c .before .before .before .before .before .before .before .before .before .before .before .before .args in
     let p = c .before .before .before .before .before .before .before .before .before .before .before .before .pre in
     let (_, fits) = delivery-slot (a .counters .now) (a .at) (a .item .rank) (a .item .queue) (p .0) (p .1 .0) (p .1 .1 .1 .0) (p .1 .1 .1 .1)
-    (c .before .before .before .before .before .before .before .head .given .1) (c .before .before .before .before .before .before .before .before .before .oldest-delivery .ensures) in
+    (c .before .before .before .before .before .before .before .head .given .1) (c .before .before .before .before .before .before .before .before
+    .before .oldest-delivery .ensures) in
     (p .0, (p .1 .0, fits))
 
 set-cell-requires : tie.Need-set-cell-requires
-set-cell-requires c κs = c .before .before .before .before .before .before .before .before .before .before .before .before .before .before .pre .1 .1 .0
+set-cell-requires c κs = c .before .before .before .before .before .before .before .before .before .before .before .before .before .before .pre .1 .1
+    .0
 
 write-of-requires : tie.Need-write-of-requires
-write-of-requires c κs = c .before .before .before .before .before .before .before .before .before .before .before .before .before .before .before .pre .1 .1 .0
+write-of-requires c κs = c .before .before .before .before .before .before .before .before .before .before .before .before .before .before .before
+    .pre .1 .1 .0
 
 returns-2 : tie.Need-returns-2
 returns-2 c =
     let a = c .before .before .before .before .before .before .before .before .before .before .before .before .before .before .before .before .args in
     let p = c .before .before .before .before .before .before .before .before .before .before .before .before .before .before .before .before .pre in
     λ control registers s held o w.
-    delivery-taken (record { control = control; registers = registers; cells = a .cells .now; entries = a .entries .now; counters = a .counters .now }) s (a .item) (a .at) held (p .0) (p .1 .0)
-    (c .before .before .before .before .before .before .before .before .before .before .before .head .given .1) (c .before .before .before .before .before .before .before .agrees-there .ensures) (c .before .before .before .before .before .before .before .before .before .before .before .before .before .oldest-delivery .ensures) (c .before .before .before .before .before .before .before .before .names .ensures)
-    (c .before .before .before .before .before .before .before .before .before .value-at .ensures) (c .before .before .before .before .before .before .if1 .taken) (p .1 .1 .0) (le-of-lt (p .1 .1 .1 .0)) o w
-    (c .before .before .before .before .before .group-at .ensures) (c .write-of .ensures) (c .before .set-cell .ensures) (c .before .before .before .deliver .ensures)
+    delivery-taken (memory control registers (a .cells .now) (a .entries .now) (a .counters .now)) s (a .item) (a .at) held (p .0) (p .1 .0)
+    (c .before .before .before .before .before .before .before .before .before .before .before .head .given .1) (c .before .before .before .before
+    .before .before .before .agrees-there .ensures) (c .before .before .before .before .before .before .before .before .before .before .before
+    .before .before .oldest-delivery .ensures) (c .before .before .before .before .before .before .before .before .names .ensures)
+    (c .before .before .before .before .before .before .before .before .before .value-at .ensures) (c .before .before .before .before .before .before
+    .if1 .taken) (p .1 .1 .0) (le-of-lt (p .1 .1 .1 .0)) o w
+    (c .before .before .before .before .before .group-at .ensures) (c .write-of .ensures) (c .before .set-cell .ensures) (c .before .before .before
+    .deliver .ensures)
 
 returns-3 : tie.Need-returns-3
 returns-3 c =
     let a = c .before .before .before .before .before .before .before .before .before .before .args in
     let p = c .before .before .before .before .before .before .before .before .before .before .pre in
     λ control registers s held o w.
-    delivery-refused (record { control = control; registers = registers; cells = a .cells .now; entries = a .entries .now; counters = a .counters .now }) s (a .item) (a .at) held (p .0) (p .1 .0)
-    (c .before .before .before .before .before .head .given .1) (c .before .agrees-there .ensures) (c .before .before .before .before .before .before .before .oldest-delivery .ensures) (c .before .before .names .ensures)
+    delivery-refused (memory control registers (a .cells .now) (a .entries .now) (a .counters .now)) s (a .item) (a .at) held (p .0) (p .1 .0)
+    (c .before .before .before .before .before .head .given .1) (c .before .agrees-there .ensures) (c .before .before .before .before .before .before
+    .before .oldest-delivery .ensures) (c .before .before .names .ensures)
     (c .before .before .before .value-at .ensures) (c .if1 .left)
 
 pub take-delivery-spec : {M : Type 1} → statement M

@@ -3,6 +3,7 @@ use borrow.Author.Needs.{needs}
 use mathlib.Core.Path.{refl}
 use native.Mathlib.Omega.{arith}
 use native.Mathlib.Nat.{le-of-lt}
+use Rattle.replay.specs.Steps.{memory}
 use Rattle.replay.proofs.PopAgree.{request-slot, fetch-none, fetch-refused, fetch-taken}
 use Rattle.replay.proofs.pops.take_fetch.Statement.{statement}
 use Rattle.replay.proofs.pops.take_fetch.Tie as tie
@@ -21,7 +22,7 @@ returns c =
     let a = c .before .before .before .before .before .args in
     let p = c .before .before .before .before .before .pre in
     λ control registers s held o w.
-    fetch-none (record { control = control; registers = registers; cells = a .cells .now; entries = a .entries .now; counters = a .counters .now }) s (a .item) (a .at) held (p .0) (p .1 .0)
+    fetch-none (memory control registers (a .cells .now) (a .entries .now) (a .counters .now)) s (a .item) (a .at) held (p .0) (p .1 .0)
     (c .before .before .oldest-request .ensures) (c .enum-told .given .1)
 
 cell-at-requires : tie.Need-cell-at-requires
@@ -43,7 +44,8 @@ group-at-requires c κs =
     let a = c .before .before .before .before .before .before .before .before .before .before .before .before .args in
     let p = c .before .before .before .before .before .before .before .before .before .before .before .before .pre in
     let (fits, _) = request-slot (a .counters .now) (a .at) (a .item .rank) (a .item .queue) (p .0) (p .1 .0) (p .1 .1 .1 .0) (p .1 .1 .1 .1)
-    (c .before .before .before .before .before .before .before .head .given .1) (c .before .before .before .before .before .before .before .before .before .oldest-request .ensures) in
+    (c .before .before .before .before .before .before .before .head .given .1) (c .before .before .before .before .before .before .before .before
+    .before .oldest-request .ensures) in
     (p .0, (p .1 .0, fits))
 
 fetch-requires : tie.Need-fetch-requires
@@ -51,7 +53,8 @@ fetch-requires c κs =
     let a = c .before .before .before .before .before .before .before .before .before .before .before .before .before .before .before .args in
     let p = c .before .before .before .before .before .before .before .before .before .before .before .before .before .before .before .pre in
     let (_, fits) = request-slot (a .counters .now) (a .at) (a .item .rank) (a .item .queue) (p .0) (p .1 .0) (p .1 .1 .1 .0) (p .1 .1 .1 .1)
-    (c .before .before .before .before .before .before .before .before .before .before .head .given .1) (c .before .before .before .before .before .before .before .before .before .before .before .before .oldest-request .ensures) in
+    (c .before .before .before .before .before .before .before .before .before .before .head .given .1) (c .before .before .before .before .before
+    .before .before .before .before .before .before .before .oldest-request .ensures) in
     (p .0, (p .1 .0, fits))
 
 read-of-requires : tie.Need-read-of-requires
@@ -59,12 +62,18 @@ read-of-requires c κs = search needs
 
 returns-2 : tie.Need-returns-2
 returns-2 c =
-    let a = c .before .before .before .before .before .before .before .before .before .before .before .before .before .before .before .before .before .args in
-    let p = c .before .before .before .before .before .before .before .before .before .before .before .before .before .before .before .before .before .pre in
+    let a = c .before .before .before .before .before .before .before .before .before .before .before .before .before .before .before .before .before
+    .args in
+    let p = c .before .before .before .before .before .before .before .before .before .before .before .before .before .before .before .before .before
+    .pre in
     λ control registers s held o w.
-    fetch-taken (record { control = control; registers = registers; cells = a .cells .now; entries = a .entries .now; counters = a .counters .now }) s (a .item) (a .at) held (p .0) (p .1 .0)
-    (c .before .before .before .before .before .before .before .before .before .before .before .before .head .given .1) (c .before .before .before .before .before .before .before .agrees-there .ensures) (c .before .before .before .before .before .before .before .before .before .before .before .before .before .before .oldest-request .ensures) (c .before .before .before .before .before .before .before .before .names .ensures) (p .1 .1 .0)
-    (c .before .before .before .before .before .before .before .before .before .before .cell-at .ensures) (c .before .before .before .before .before .before .if1 .taken) (le-of-lt (p .1 .1 .1 .0)) o w
+    fetch-taken (memory control registers (a .cells .now) (a .entries .now) (a .counters .now)) s (a .item) (a .at) held (p .0) (p .1 .0)
+    (c .before .before .before .before .before .before .before .before .before .before .before .before .head .given .1) (c .before .before .before
+    .before .before .before .before .agrees-there .ensures) (c .before .before .before .before .before .before .before .before .before .before
+    .before .before .before .before .oldest-request .ensures) (c .before .before .before .before .before .before .before .before .names .ensures)
+    (p .1 .1 .0)
+    (c .before .before .before .before .before .before .before .before .before .before .cell-at .ensures) (c .before .before .before .before .before
+    .before .if1 .taken) (le-of-lt (p .1 .1 .1 .0)) o w
     (c .before .before .before .before .group-at .ensures) (c .read-of .ensures) (c .before .fetch .ensures .0) (c .before .fetch .ensures .1)
 
 returns-3 : tie.Need-returns-3
@@ -72,8 +81,9 @@ returns-3 c =
     let a = c .before .before .before .before .before .before .before .before .before .before .before .args in
     let p = c .before .before .before .before .before .before .before .before .before .before .before .pre in
     λ control registers s held o w.
-    fetch-refused (record { control = control; registers = registers; cells = a .cells .now; entries = a .entries .now; counters = a .counters .now }) s (a .item) (a .at) held (p .0) (p .1 .0)
-    (c .before .before .before .before .before .before .head .given .1) (c .before .agrees-there .ensures) (c .before .before .before .before .before .before .before .before .oldest-request .ensures) (c .before .before .names .ensures) (p .1 .1 .0)
+    fetch-refused (memory control registers (a .cells .now) (a .entries .now) (a .counters .now)) s (a .item) (a .at) held (p .0) (p .1 .0)
+    (c .before .before .before .before .before .before .head .given .1) (c .before .agrees-there .ensures) (c .before .before .before .before .before
+    .before .before .before .oldest-request .ensures) (c .before .before .names .ensures) (p .1 .1 .0)
     (c .before .before .before .before .cell-at .ensures) (c .if1 .left)
 
 pub take-fetch-spec : {M : Type 1} → statement M

@@ -28,12 +28,14 @@ wide-requires c κs = search needs
 returns : tie.Need-returns
 returns c =
     let a = c .before .before .before .before .args in
-    ranks-equal (a .place) (c .before .wide .ensures) (c .before .before .before .number-at .ensures) (c .before .before .number-at2 .ensures) (c .if1 .taken)
+    ranks-equal (a .place) (c .before .wide .ensures) (c .before .before .before .number-at .ensures) (c .before .before .number-at2 .ensures) (c
+    .if1 .taken)
 
 returns-2 : tie.Need-returns-2
 returns-2 c =
     let a = c .before .before .before .before .args in
-    ranks-differ (a .place) (c .before .wide .ensures) (c .before .before .before .number-at .ensures) (c .before .before .number-at2 .ensures) (c .if1 .left)
+    ranks-differ (a .place) (c .before .wide .ensures) (c .before .before .before .number-at .ensures) (c .before .before .number-at2 .ensures) (c
+    .if1 .left)
 
 pub names-spec : {M : Type 1} → statement M
 names-spec =

@@ -17,13 +17,21 @@ returns-2 : tie.Need-returns-2
 unfolding rowAfter
 returns-2 c =
     let a = c .before .before .before .before .args in
-    rw (sym (c .before .before .before .is-bar .ensures) ∙ not-false _ (c .before .before .if1 .left), eq-eqb (a .item .rank) (a .ranks) (c .if2 .taken))
+    rw (
+      sym (c .before .before .before .is-bar .ensures) ∙ not-false _ (c .before .before .if1 .left),
+      eq-eqb (a .item .rank) (a .ranks) (c .if2
+          .taken),
+    )
 
 returns-3 : tie.Need-returns-3
 unfolding rowAfter
 returns-3 c =
     let a = c .before .before .before .before .args in
-    rw (sym (c .before .before .before .is-bar .ensures) ∙ not-false _ (c .before .before .if1 .left), ne-eqb (a .item .rank) (a .ranks) (c .if2 .left))
+    rw (
+      sym (c .before .before .before .is-bar .ensures) ∙ not-false _ (c .before .before .if1 .left),
+      ne-eqb (a .item .rank) (a .ranks) (c .if2
+          .left),
+    )
 
 pub row-after-spec : {M : Type 1} → statement M
 row-after-spec = tie.close (tie.spec is-bar-requires returns returns-2 returns-3)

@@ -6,6 +6,7 @@ use native.Mathlib.Omega.{arith}
 use Rattle.model.specs.Limits.{maxItems}
 use borrow.Author.Needs.{needs}
 use Rattle.record.proofs.Items.{item-found, item-refused}
+use Rattle.replay.specs.Steps.{memory}
 use Rattle.replay.specs.Runs.{ProgramOf, ItemsOf, Begun}
 use Rattle.replay.proofs.Runs.{At, reached-start, never-fault, here-ordered, here-fits, reached-next, ran-refused, ran-ended}
 use Rattle.replay.proofs.run.take_items.Statement.{statement}
@@ -18,14 +19,16 @@ use Rattle.replay.proofs.items.take_item.Reads as take-item-reads
 use Rattle.replay.proofs.step.Step.refusal.Reads as step-Step-refusal-reads
 
 abbrev Inv-loop : tie.InvT-loop
-Inv-loop program starts header recorded count control₀ registers₀ cells₀ entries₀ counters₀ groups₀ accesses₀ place₀ at₀ opened₀ row₀ control registers cells entries counters groups accesses place at opened row =
+Inv-loop program starts header recorded count control₀ registers₀ cells₀ entries₀ counters₀ groups₀ accesses₀ place₀ at₀ opened₀ row₀ control
+    registers cells entries counters groups accesses place at opened row =
     ((p : ProgramOf program starts header) (i : ItemsOf header recorded count)
-    (begun : Begun (record { control = control₀; registers = registers₀; cells = cells₀; entries = entries₀; counters = counters₀ })) →
-    At p i begun groups₀ accesses₀ (record { control = control; registers = registers; cells = cells; entries = entries; counters = counters })
+    (begun : Begun (memory control₀ registers₀ cells₀ entries₀ counters₀)) →
+    At p i begun groups₀ accesses₀ (memory control registers cells entries counters)
     groups accesses place at opened row)
 
 abbrev μ-loop : tie.MeasureT-loop
-μ-loop program starts header recorded count control₀ registers₀ cells₀ entries₀ counters₀ groups₀ accesses₀ place₀ at₀ opened₀ row₀ control registers cells entries counters groups accesses place at opened row =
+μ-loop program starts header recorded count control₀ registers₀ cells₀ entries₀ counters₀ groups₀ accesses₀ place₀ at₀ opened₀ row₀ control registers
+    cells entries counters groups accesses place at opened row =
     count - at
 
 loop-holds : tie.Need-loop-holds Inv-loop μ-loop

@@ -44,8 +44,10 @@ values-of-requires c κs = search needs
 returns-2 : tie.Need-returns-2
 returns-2 c =
     let g = c .before .before .before .before .before .before .before .before .args in (
-      (λ h. command-is (g .header) (g .rank) (g .registers) (g .program .now) (g .at) (c .before .before .before .before .before .byte-at .ensures) (c .before .before .before .before .kind-of .ensures)
-          (c .before .before .before .byte-at2 .ensures) (c .before .before .byte-at3 .ensures) (c .before .register-at .ensures .0) (c .values-of .ensures)),
+      (λ h. command-is (g .header) (g .rank) (g .registers) (g .program .now) (g .at) (c .before .before .before .before .before .byte-at .ensures)
+          (c .before .before .before .before .kind-of .ensures)
+          (c .before .before .before .byte-at2 .ensures) (c .before .before .byte-at3 .ensures) (c .before .register-at .ensures .0) (c .values-of
+          .ensures)),
       c .before .register-at .ensures .1,
     )
 

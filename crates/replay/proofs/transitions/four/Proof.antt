@@ -21,7 +21,8 @@ none-requires c κs = search needs
 returns : tie.Need-returns
 returns c =
     let g = c .before .before .before .before .before .args in
-    c .none .ensures ∙ sym (none-there (expressionValue (g .header) (g .rank) (g .registers) (g .bytes .now)) (g .at) (c .before .before .before .evaluate .ensures) _ _ (c .before .enum-told .given .1))
+    c .none .ensures ∙ sym (none-there (expressionValue (g .header) (g .rank) (g .registers) (g .bytes .now)) (g .at) (c .before .before .before
+    .evaluate .ensures) _ _ (c .before .enum-told .given .1))
 
 evaluate-requires-2 : tie.Need-evaluate-requires-2
 evaluate-requires-2 c κs = search needs
@@ -38,8 +39,10 @@ none-requires-2 c κs = search needs
 returns-2 : tie.Need-returns-2
 returns-2 c =
     let g = c .before .before .before .before .before .before .before .before .before .args in
-    c .none2 .ensures ∙ sym (one-there (expressionValue (g .header) (g .rank) (g .registers) (g .bytes .now)) (g .at) (c .before .before .before .before .before .before .before .evaluate .ensures) _ _ (c .before .before .before .before .before .first .given .1)
-    ∙ none-there (expressionValue (g .header) (g .rank) (g .registers) (g .bytes .now)) (c .before .before .before .before .before .first .given .0 .1 .0) (c .before .before .before .evaluate2 .ensures) _ _ (c .before .enum-told2 .given .1))
+    c .none2 .ensures ∙ sym (one-there (expressionValue (g .header) (g .rank) (g .registers) (g .bytes .now)) (g .at) (c .before .before .before
+    .before .before .before .before .evaluate .ensures) _ _ (c .before .before .before .before .before .first .given .1)
+    ∙ none-there (expressionValue (g .header) (g .rank) (g .registers) (g .bytes .now)) (c .before .before .before .before .before .first .given .0
+    .1 .0) (c .before .before .before .evaluate2 .ensures) _ _ (c .before .enum-told2 .given .1))
 
 evaluate-requires-3 : tie.Need-evaluate-requires-3
 evaluate-requires-3 c κs = search needs
@@ -56,9 +59,14 @@ none-requires-3 c κs = search needs
 returns-3 : tie.Need-returns-3
 returns-3 c =
     let g = c .before .before .before .before .before .before .before .before .before .before .before .before .before .args in
-    c .none3 .ensures ∙ sym (one-there (expressionValue (g .header) (g .rank) (g .registers) (g .bytes .now)) (g .at) (c .before .before .before .before .before .before .before .before .before .before .before .evaluate .ensures) _ _ (c .before .before .before .before .before .before .before .before .before .first .given .1)
-    ∙ one-there (expressionValue (g .header) (g .rank) (g .registers) (g .bytes .now)) (c .before .before .before .before .before .before .before .before .before .first .given .0 .1 .0) (c .before .before .before .before .before .before .before .evaluate2 .ensures) _ _ (c .before .before .before .before .before .second .given .1)
-    ∙ none-there (expressionValue (g .header) (g .rank) (g .registers) (g .bytes .now)) (c .before .before .before .before .before .second .given .0 .1 .0) (c .before .before .before .evaluate3 .ensures) _ _ (c .before .enum-told3 .given .1))
+    c .none3 .ensures ∙ sym (one-there (expressionValue (g .header) (g .rank) (g .registers) (g .bytes .now)) (g .at) (c .before .before .before
+    .before .before .before .before .before .before .before .before .evaluate .ensures) _ _ (c .before .before .before .before .before .before
+    .before .before .before .first .given .1)
+    ∙ one-there (expressionValue (g .header) (g .rank) (g .registers) (g .bytes .now)) (c .before .before .before .before .before .before .before
+    .before .before .first .given .0 .1 .0) (c .before .before .before .before .before .before .before .evaluate2 .ensures) _ _ (c .before
+    .before .before .before .before .second .given .1)
+    ∙ none-there (expressionValue (g .header) (g .rank) (g .registers) (g .bytes .now)) (c .before .before .before .before .before .second .given .0
+    .1 .0) (c .before .before .before .evaluate3 .ensures) _ _ (c .before .enum-told3 .given .1))
 
 evaluate-requires-4 : tie.Need-evaluate-requires-4
 evaluate-requires-4 c κs = search needs
@@ -74,19 +82,35 @@ none-requires-4 c κs = search needs
 
 returns-4 : tie.Need-returns-4
 returns-4 c =
-    let g = c .before .before .before .before .before .before .before .before .before .before .before .before .before .before .before .before .before .args in
-    c .none4 .ensures ∙ sym (one-there (expressionValue (g .header) (g .rank) (g .registers) (g .bytes .now)) (g .at) (c .before .before .before .before .before .before .before .before .before .before .before .before .before .before .before .evaluate .ensures) _ _ (c .before .before .before .before .before .before .before .before .before .before .before .before .before .first .given .1)
-    ∙ one-there (expressionValue (g .header) (g .rank) (g .registers) (g .bytes .now)) (c .before .before .before .before .before .before .before .before .before .before .before .before .before .first .given .0 .1 .0) (c .before .before .before .before .before .before .before .before .before .before .before .evaluate2 .ensures) _ _ (c .before .before .before .before .before .before .before .before .before .second .given .1)
-    ∙ one-there (expressionValue (g .header) (g .rank) (g .registers) (g .bytes .now)) (c .before .before .before .before .before .before .before .before .before .second .given .0 .1 .0) (c .before .before .before .before .before .before .before .evaluate3 .ensures) _ _ (c .before .before .before .before .before .third .given .1)
-    ∙ none-there (expressionValue (g .header) (g .rank) (g .registers) (g .bytes .now)) (c .before .before .before .before .before .third .given .0 .1 .0) (c .before .before .before .evaluate4 .ensures) _ _ (c .before .enum-told4 .given .1))
+    let g = c .before .before .before .before .before .before .before .before .before .before .before .before .before .before .before .before .before
+    .args in
+    c .none4 .ensures ∙ sym (one-there (expressionValue (g .header) (g .rank) (g .registers) (g .bytes .now)) (g .at) (c .before .before .before
+    .before .before .before .before .before .before .before .before .before .before .before .before .evaluate .ensures) _ _ (c .before .before
+    .before .before .before .before .before .before .before .before .before .before .before .first .given .1)
+    ∙ one-there (expressionValue (g .header) (g .rank) (g .registers) (g .bytes .now)) (c .before .before .before .before .before .before .before
+    .before .before .before .before .before .before .first .given .0 .1 .0) (c .before .before .before .before .before .before .before .before
+    .before .before .before .evaluate2 .ensures) _ _ (c .before .before .before .before .before .before .before .before .before .second .given .1)
+    ∙ one-there (expressionValue (g .header) (g .rank) (g .registers) (g .bytes .now)) (c .before .before .before .before .before .before .before
+    .before .before .second .given .0 .1 .0) (c .before .before .before .before .before .before .before .evaluate3 .ensures) _ _ (c .before
+    .before .before .before .before .third .given .1)
+    ∙ none-there (expressionValue (g .header) (g .rank) (g .registers) (g .bytes .now)) (c .before .before .before .before .before .third .given .0
+    .1 .0) (c .before .before .before .evaluate4 .ensures) _ _ (c .before .enum-told4 .given .1))
 
 returns-5 : tie.Need-returns-5
 returns-5 c =
-    let g = c .before .before .before .before .before .before .before .before .before .before .before .before .before .before .before .before .before .args in
-    sym (one-there (expressionValue (g .header) (g .rank) (g .registers) (g .bytes .now)) (g .at) (c .before .before .before .before .before .before .before .before .before .before .before .before .before .before .before .evaluate .ensures) _ _ (c .before .before .before .before .before .before .before .before .before .before .before .before .before .first .given .1)
-    ∙ one-there (expressionValue (g .header) (g .rank) (g .registers) (g .bytes .now)) (c .before .before .before .before .before .before .before .before .before .before .before .before .before .first .given .0 .1 .0) (c .before .before .before .before .before .before .before .before .before .before .before .evaluate2 .ensures) _ _ (c .before .before .before .before .before .before .before .before .before .second .given .1)
-    ∙ one-there (expressionValue (g .header) (g .rank) (g .registers) (g .bytes .now)) (c .before .before .before .before .before .before .before .before .before .second .given .0 .1 .0) (c .before .before .before .before .before .before .before .evaluate3 .ensures) _ _ (c .before .before .before .before .before .third .given .1)
-    ∙ one-there (expressionValue (g .header) (g .rank) (g .registers) (g .bytes .now)) (c .before .before .before .before .before .third .given .0 .1 .0) (c .before .before .before .evaluate4 .ensures) _ _ (c .before .fourth .given .1))
+    let g = c .before .before .before .before .before .before .before .before .before .before .before .before .before .before .before .before .before
+    .args in
+    sym (one-there (expressionValue (g .header) (g .rank) (g .registers) (g .bytes .now)) (g .at) (c .before .before .before .before .before .before
+    .before .before .before .before .before .before .before .before .before .evaluate .ensures) _ _ (c .before .before .before .before .before
+    .before .before .before .before .before .before .before .before .first .given .1)
+    ∙ one-there (expressionValue (g .header) (g .rank) (g .registers) (g .bytes .now)) (c .before .before .before .before .before .before .before
+    .before .before .before .before .before .before .first .given .0 .1 .0) (c .before .before .before .before .before .before .before .before
+    .before .before .before .evaluate2 .ensures) _ _ (c .before .before .before .before .before .before .before .before .before .second .given .1)
+    ∙ one-there (expressionValue (g .header) (g .rank) (g .registers) (g .bytes .now)) (c .before .before .before .before .before .before .before
+    .before .before .second .given .0 .1 .0) (c .before .before .before .before .before .before .before .evaluate3 .ensures) _ _ (c .before
+    .before .before .before .before .third .given .1)
+    ∙ one-there (expressionValue (g .header) (g .rank) (g .registers) (g .bytes .now)) (c .before .before .before .before .before .third .given .0 .1
+    .0) (c .before .before .before .evaluate4 .ensures) _ _ (c .before .fourth .given .1))
 
 pub four-spec : {M : Type 1} → statement M
 four-spec =

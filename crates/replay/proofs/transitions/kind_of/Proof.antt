@@ -31,7 +31,16 @@ returns-6 c = rw (c .match .keys6)
 returns-7 : tie.Need-returns-7
 unfolding kindAt
 returns-7 c =
-    rw (ne-eqb (c .before .args .kind) 1 (c .match .rest .0 .0 .0 .0 .0 .1), ne-eqb (c .before .args .kind) 2 (c .match .rest .0 .0 .0 .0 .1), ne-eqb (c .before .args .kind) 3 (c .match .rest .0 .0 .0 .1), ne-eqb (c .before .args .kind) 4 (c .match .rest .0 .0 .1), ne-eqb (c .before .args .kind) 5 (c .match .rest .0 .1), ne-eqb (c .before .args .kind) 6 (c .match .rest .1))
+    rw (
+      ne-eqb (c .before .args .kind) 1 (c .match .rest .0 .0 .0 .0 .0 .1),
+      ne-eqb (c .before .args .kind) 2 (c .match .rest .0 .0 .0 .0 .1),
+      ne-eqb
+          (c .before .args .kind) 3 (c .match .rest .0 .0 .0 .1),
+      ne-eqb (c .before .args .kind) 4 (c .match .rest .0 .0 .1),
+      ne-eqb (c .before .args
+          .kind) 5 (c .match .rest .0 .1),
+      ne-eqb (c .before .args .kind) 6 (c .match .rest .1),
+    )
 
 pub kind-of-spec : {M : Type 1} → statement M
 kind-of-spec =

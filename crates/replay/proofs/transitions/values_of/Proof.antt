@@ -59,7 +59,17 @@ returns-6 c = rw (c .before .match .keys6) (c .four2 .ensures)
 returns-7 : tie.Need-returns-7
 unfolding valuesAt
 returns-7 c =
-    rw (ne-eqb (c .before .before .before .args .kind) 1 (c .before .match .rest .0 .0 .0 .0 .0 .1), ne-eqb (c .before .before .before .args .kind) 2 (c .before .match .rest .0 .0 .0 .0 .1), ne-eqb (c .before .before .before .args .kind) 3 (c .before .match .rest .0 .0 .0 .1), ne-eqb (c .before .before .before .args .kind) 4 (c .before .match .rest .0 .0 .1), ne-eqb (c .before .before .before .args .kind) 5 (c .before .match .rest .0 .1), ne-eqb (c .before .before .before .args .kind) 6 (c .before .match .rest .1))
+    rw (
+      ne-eqb (c .before .before .before .args .kind) 1 (c .before .match .rest .0 .0 .0 .0 .0 .1),
+      ne-eqb (c .before .before .before .args .kind) 2
+          (c .before .match .rest .0 .0 .0 .0 .1),
+      ne-eqb (c .before .before .before .args .kind) 3 (c .before .match .rest .0 .0 .0 .1),
+      ne-eqb (c
+          .before .before .before .args .kind) 4 (c .before .match .rest .0 .0 .1),
+      ne-eqb (c .before .before .before .args .kind) 5 (c .before .match
+          .rest .0 .1),
+      ne-eqb (c .before .before .before .args .kind) 6 (c .before .match .rest .1),
+    )
     (c .none .ensures)
 
 pub values-of-spec : {M : Type 1} → statement M

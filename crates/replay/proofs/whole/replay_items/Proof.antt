@@ -60,7 +60,8 @@ returns-2 c p i =
 
 all-quiet-requires : tie.Need-all-quiet-requires
 all-quiet-requires c κs =
-    let fits = c .before .before .before .before .before .before .before .before .before .before .before .before .before .before .before .before .before .pre .0 .fits in
+    let fits = c .before .before .before .before .before .before .before .before .before .before .before .before .before .before .before .before
+    .before .pre .0 .fits in
     (fits .ranksFit, fits .queuesFit)
 
 returns-3 : tie.Need-returns-3
@@ -69,7 +70,8 @@ returns-3 c p i =
     let atCopy = atTaken .before .before .before .before .before .before .before .before in
     let start = atCopy .before .before .before .before in
     let begun = begun-at (startIn (start .args .cells .now)) _ (atCopy .copied-cells .ensures) in
-    items-left p i begun _ _ _ _ (atTaken .take-items .ensures p i begun) _ (c .before .before .before .before .before .ran .given .1) (c .before .before .before .if1 .left)
+    items-left p i begun _ _ _ _ (atTaken .take-items .ensures p i begun) _ (c .before .before .before .before .before .ran .given .1) (c .before
+    .before .before .if1 .left)
     (sym (c .before .all-quiet .ensures) ∙ not-true _ (c .if2 .taken))
 
 returns-4 : tie.Need-returns-4
@@ -78,7 +80,8 @@ returns-4 c p i =
     let atCopy = atTaken .before .before .before .before .before .before .before .before in
     let start = atCopy .before .before .before .before in
     let begun = begun-at (startIn (start .args .cells .now)) _ (atCopy .copied-cells .ensures) in
-    items-accepted p i begun _ _ _ _ (atTaken .take-items .ensures p i begun) _ (c .before .before .before .before .before .ran .given .1) (c .before .before .before .if1 .left)
+    items-accepted p i begun _ _ _ _ (atTaken .take-items .ensures p i begun) _ (c .before .before .before .before .before .ran .given .1) (c .before
+    .before .before .if1 .left)
     (sym (c .before .all-quiet .ensures) ∙ not-false _ (c .if2 .left))
 
 pub replay-items-spec : {M : Type 1} → statement M
