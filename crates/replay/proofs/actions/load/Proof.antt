@@ -21,23 +21,32 @@ read-of-requires c κs = search needs
 
 returns : tie.Need-returns
 returns c =
-    let a = c .before .before .before .before .before .before .before .before .args in
-    let p = c .before .before .before .before .before .before .before .before .pre in
+    let atSetRegister = c .before in
+    let atIf1 = atSetRegister .before .before in
+    let atAgreesThere = atIf1 .before in
+    let atSameAddress = atAgreesThere .before in
+    let atCellAt = atSameAddress .before in
+    let start = atCellAt .before .before in
+    let a = start .args in
+    let p = start .pre in
     λ most group entries counters control s origin held g.
     load-done control (record { registers = a .registers .now; cells = a .cells .now; entries = entries; counters = counters }) (a .item) s origin
     held (p .0) (a .register) (a .cell) (p .1 .1)
-    (c .before .before .before .before .before .before .cell-at .ensures) (c .before .before .before .before .before .same-address .ensures) (c
-    .before .before .before .before .agrees-there .ensures) (c .before .before .before .if1 .taken) (p .1 .0)
-    (c .before .set-register .ensures) (c .read-of .ensures)
+    (atCellAt .cell-at .ensures) (atSameAddress .same-address .ensures) (atAgreesThere .agrees-there .ensures) (atIf1 .if1 .taken) (p .1 .0)
+    (atSetRegister .set-register .ensures) (c .read-of .ensures)
 
 returns-2 : tie.Need-returns-2
 returns-2 c =
-    let a = c .before .before .before .before .before .args in
-    let p = c .before .before .before .before .before .pre in
+    let atAgreesThere = c .before in
+    let atSameAddress = atAgreesThere .before in
+    let atCellAt = atSameAddress .before in
+    let start = atCellAt .before .before in
+    let a = start .args in
+    let p = start .pre in
     λ most group entries counters control s origin held g.
     load-differs control (record { registers = a .registers .now; cells = a .cells .now; entries = entries; counters = counters }) (a .item) s origin
     held (p .0) (a .register) (a .cell) (p .1 .1)
-    (c .before .before .before .cell-at .ensures) (c .before .before .same-address .ensures) (c .before .agrees-there .ensures) (c .if1 .left)
+    (atCellAt .cell-at .ensures) (atSameAddress .same-address .ensures) (atAgreesThere .agrees-there .ensures) (c .if1 .left)
 
 pub load-spec : {M : Type 1} → statement M
 load-spec =

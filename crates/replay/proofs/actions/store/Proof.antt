@@ -18,23 +18,30 @@ write-of-requires c κs = search needs
 
 returns : tie.Need-returns
 returns c =
-    let a = c .before .before .before .before .before .before .before .args in
-    let p = c .before .before .before .before .before .before .before .pre in
+    let atSetCell = c .before in
+    let atIf1 = atSetCell .before .before in
+    let atAgreesThere = atIf1 .before in
+    let atSameAddress = atAgreesThere .before in
+    let start = atSameAddress .before .before in
+    let a = start .args in
+    let p = start .pre in
     λ most group registers entries counters control s origin held g.
     store-done control (record { registers = registers; cells = a .cells .now; entries = entries; counters = counters }) (a .item) s origin held (p
     .0) (a .cell) (a .value)
-    (c .before .before .before .before .before .same-address .ensures) (c .before .before .before .before .agrees-there .ensures) (c .before .before
-    .before .if1 .taken) (p .1)
-    (c .before .set-cell .ensures) (c .write-of .ensures)
+    (atSameAddress .same-address .ensures) (atAgreesThere .agrees-there .ensures) (atIf1 .if1 .taken) (p .1)
+    (atSetCell .set-cell .ensures) (c .write-of .ensures)
 
 returns-2 : tie.Need-returns-2
 returns-2 c =
-    let a = c .before .before .before .before .args in
-    let p = c .before .before .before .before .pre in
+    let atAgreesThere = c .before in
+    let atSameAddress = atAgreesThere .before in
+    let start = atSameAddress .before .before in
+    let a = start .args in
+    let p = start .pre in
     λ most group registers entries counters control s origin held g.
     store-differs control (record { registers = registers; cells = a .cells .now; entries = entries; counters = counters }) (a .item) s origin held
     (p .0) (a .cell) (a .value)
-    (c .before .before .same-address .ensures) (c .before .agrees-there .ensures) (c .if1 .left)
+    (atSameAddress .same-address .ensures) (atAgreesThere .agrees-there .ensures) (c .if1 .left)
 
 pub store-spec : {M : Type 1} → statement M
 store-spec =

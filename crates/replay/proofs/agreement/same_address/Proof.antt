@@ -5,10 +5,15 @@ use Rattle.replay.proofs.agreement.same_address.Statement.{statement}
 use Rattle.replay.proofs.agreement.same_address.Tie as tie
 
 returns : tie.Need-returns
-returns c = let a = c .before .before .before .before .before .args in rw (eq-eqb (a .a .rank) (a .b .rank) (c .before .before .if1 .taken))
+returns c =
+    let atIf1 = c .before .before in
+    let start = atIf1 .before .before .before in
+    let a = start .args in rw (eq-eqb (a .a .rank) (a .b .rank) (atIf1 .if1 .taken))
 
 returns-2 : tie.Need-returns-2
-returns-2 c = let a = c .before .before .before .args in rw (ne-eqb (a .a .rank) (a .b .rank) (c .if1 .left))
+returns-2 c =
+    let start = c .before .before .before in
+    let a = start .args in rw (ne-eqb (a .a .rank) (a .b .rank) (c .if1 .left))
 
 pub same-address-spec : {M : Type 1} → statement M
 same-address-spec = tie.close (tie.spec returns returns-2)

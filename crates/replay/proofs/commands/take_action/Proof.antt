@@ -19,19 +19,21 @@ enum-told c = search needs
 
 returns : tie.Need-returns
 returns c =
-    let g = c .before .before .before .before .before .before .before .before .args in
-    let p = c .before .before .before .before .before .before .before .before .pre in
+    let atAct = c .before .before in
+    let atGroupOf = atAct .before .before .before .before .before in
+    let start = atGroupOf .before in
+    let g = start .args in
+    let m = memory (g .control .now) (g .registers .now) (g .cells .now) (g .entries .now) (g .counters .now) in
     λ P t a n x e s held o w.
-    action-refused (memory (g .control .now) (g .registers .now) (g .cells .now) (g .entries .now) (g .counters .now)) P s (g .at) (g .item) t a held
+    action-refused m P s (g .at) (g .item) t a held
     (record {
-      registers = c .before .before .act .last .1 .1 .1 .1 .0;
-      cells = c .before .before .act .last .1 .1 .1 .1 .1 .0;
-      entries = c .before
-          .before .act .last .1 .1 .1 .1 .1 .1 .0;
-      counters = c .before .before .act .last .1 .1 .1 .1 .1 .1 .1 .0;
+      registers = atAct .act .last .1 .1 .1 .1 .0;
+      cells = atAct .act .last .1 .1 .1 .1 .1 .0;
+      entries = atAct .act .last .1 .1 .1 .1 .1 .1
+          .0;
+      counters = atAct .act .last .1 .1 .1 .1 .1 .1 .1 .0;
     })
-    (c .before .before .act .result) (c .before .before .act .ensures a e) o w (c .before .before .before .before .before .before .before .group-of
-    .ensures) (c .enum-told .given .1)
+    (atAct .act .result) (atAct .act .ensures a e) o w (atGroupOf .group-of .ensures) (c .enum-told .given .1)
 
 set-control-requires : tie.Need-set-control-requires
 set-control-requires c κs = search needs
@@ -44,22 +46,26 @@ row-after-requires c κs = search needs
 
 returns-2 : tie.Need-returns-2
 returns-2 c =
-    let g = c .before .before .before .before .before .before .before .before .before .before .before .before .before .args in
-    let p = c .before .before .before .before .before .before .before .before .before .before .before .before .before .pre in
+    let atOpenedAfter = c .before in
+    let atSetControl = atOpenedAfter .before in
+    let atActed = atSetControl .before .before .before in
+    let atAct = atActed .before .before in
+    let atGroupOf = atAct .before .before .before .before .before in
+    let start = atGroupOf .before in
+    let g = start .args in
+    let m = memory (g .control .now) (g .registers .now) (g .cells .now) (g .entries .now) (g .counters .now) in
+    let p = start .pre in
     λ P t a n x e s held o w.
-    action-taken (memory (g .control .now) (g .registers .now) (g .cells .now) (g .entries .now) (g .counters .now)) P s (g .at) (g .item) t a held
+    action-taken m P s (g .at) (g .item) t a held
     (record {
-      registers = c .before .before .before .before .before .before .before .act .last .1 .1 .1 .1 .0;
-      cells = c .before .before .before
-          .before .before .before .before .act .last .1 .1 .1 .1 .1 .0;
-      entries = c .before .before .before .before .before .before .before .act .last
-          .1 .1 .1 .1 .1 .1 .0;
-      counters = c .before .before .before .before .before .before .before .act .last .1 .1 .1 .1 .1 .1 .1 .0;
+      registers = atAct .act .last .1 .1 .1 .1 .0;
+      cells = atAct .act .last .1 .1 .1 .1 .1 .0;
+      entries = atAct .act .last .1 .1 .1 .1 .1 .1
+          .0;
+      counters = atAct .act .last .1 .1 .1 .1 .1 .1 .1 .0;
     })
-    (c .before .before .before .before .before .before .before .act .result) (c .before .before .before .before .before .before .before .act .ensures
-    a e) o w (c .before .before .before .before .before .before .before .before .before .before .before .before .group-of .ensures) (p .0)
-    (c .before .before .before .before .before .acted .given .1) n x (c .before .before .set-control .ensures) (c .before .opened-after .ensures) (c
-    .row-after .ensures)
+    (atAct .act .result) (atAct .act .ensures a e) o w (atGroupOf .group-of .ensures) (p .0)
+    (atActed .acted .given .1) n x (atSetControl .set-control .ensures) (atOpenedAfter .opened-after .ensures) (c .row-after .ensures)
 
 pub take-action-spec : {M : Type 1} → statement M
 take-action-spec =

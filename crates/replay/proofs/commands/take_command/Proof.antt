@@ -19,27 +19,36 @@ control-of-requires c κs = search needs
 
 returns : tie.Need-returns
 returns c =
-    let g = c .before .before .before .before .before .before .before .args in
-    let p = c .before .before .before .before .before .before .before .pre in
+    let atControlOf = c .before in
+    let atCommandAt = atControlOf .before .before in
+    let atRegistersOf = atCommandAt .before in
+    let start = atRegistersOf .before .before .before in
+    let g = start .args in
+    let m = memory (g .control .now) (g .registers .now) (g .cells .now) (g .entries .now) (g .counters .now) in
+    let p = start .pre in
     λ P t end e read s held o w.
-    state-refused (memory (g .control .now) (g .registers .now) (g .cells .now) (g .entries .now) (g .counters .now)) P s (g .at) (g .item) t held (p
-    .0) e (p .1 .0 .registersFit) (g .program .now) (g .start) read
-    (c .before .before .before .before .registers-of .ensures) (c .before .before .before .command-at .result) (c .before .before .before .command-at
-    .ensures .0) (c .before .control-of .ensures) (c .if1 .taken)
+    state-refused m P s (g .at) (g .item) t held (p .0) e (p .1 .0 .registersFit) (g .program .now) (g .start) read
+    (atRegistersOf .registers-of .ensures) (atCommandAt .command-at .result) (atCommandAt .command-at .ensures .0) (atControlOf .control-of .ensures)
+    (c .if1 .taken)
 
 same-kind-requires : tie.Need-same-kind-requires
 same-kind-requires c κs = search needs
 
 returns-2 : tie.Need-returns-2
 returns-2 c =
-    let g = c .before .before .before .before .before .before .before .before .before .args in
-    let p = c .before .before .before .before .before .before .before .before .before .pre in
+    let atSameKind = c .before in
+    let atIf1 = atSameKind .before in
+    let atControlOf = atIf1 .before in
+    let atCommandAt = atControlOf .before .before in
+    let atRegistersOf = atCommandAt .before in
+    let start = atRegistersOf .before .before .before in
+    let g = start .args in
+    let m = memory (g .control .now) (g .registers .now) (g .cells .now) (g .entries .now) (g .counters .now) in
+    let p = start .pre in
     λ P t end e read s held o w.
-    kind-refused (memory (g .control .now) (g .registers .now) (g .cells .now) (g .entries .now) (g .counters .now)) P s (g .at) (g .item) t held (p
-    .0) e (p .1 .0 .registersFit) (g .program .now) (g .start) read
-    (c .before .before .before .before .before .before .registers-of .ensures) (c .before .before .before .before .before .command-at .result) (c
-    .before .before .before .before .before .command-at .ensures .0) (c .before .before .before .control-of .ensures) (c .before .before .if1
-    .left) (c .before .same-kind .ensures) (not-true _ (c .if2 .taken))
+    kind-refused m P s (g .at) (g .item) t held (p .0) e (p .1 .0 .registersFit) (g .program .now) (g .start) read
+    (atRegistersOf .registers-of .ensures) (atCommandAt .command-at .result) (atCommandAt .command-at .ensures .0) (atControlOf .control-of .ensures)
+    (atIf1 .if1 .left) (atSameKind .same-kind .ensures) (not-true _ (c .if2 .taken))
 
 action-of-requires : tie.Need-action-of-requires
 action-of-requires c κs = search needs
@@ -52,17 +61,24 @@ enum-known-operands c = search needs
 
 returns-3 : tie.Need-returns-3
 returns-3 c =
-    let g = c .before .before .before .before .before .before .before .before .before .before .before .before .before .before .args in
-    let p = c .before .before .before .before .before .before .before .before .before .before .before .before .before .before .pre in
+    let atOperands = c .before in
+    let atJudge = atOperands .before .before in
+    let atActionOf = atJudge .before in
+    let atIf2 = atActionOf .before in
+    let atSameKind = atIf2 .before in
+    let atIf1 = atSameKind .before in
+    let atControlOf = atIf1 .before in
+    let atCommandAt = atControlOf .before .before in
+    let atRegistersOf = atCommandAt .before in
+    let start = atRegistersOf .before .before .before in
+    let g = start .args in
+    let m = memory (g .control .now) (g .registers .now) (g .cells .now) (g .entries .now) (g .counters .now) in
+    let p = start .pre in
     λ P t end e read s held o w.
-    operands-refused (memory (g .control .now) (g .registers .now) (g .cells .now) (g .entries .now) (g .counters .now)) P s (g .at) (g .item) t held
-    (p .0) e (p .1 .0 .registersFit) (g .program .now) (g .start) read
-    (c .before .before .before .before .before .before .before .before .before .before .before .registers-of .ensures) (c .before .before .before
-    .before .before .before .before .before .before .before .command-at .result) (c .before .before .before .before .before .before .before
-    .before .before .before .command-at .ensures .0) (c .before .before .before .before .before .before .before .before .control-of .ensures) (c
-    .before .before .before .before .before .before .before .if1 .left) (c .before .before .before .before .before .before .same-kind .ensures)
-    (not-false _ (c .before .before .before .before .before .if2 .left))
-    (c .before .before .before .before .action-of .ensures .0) (c .before .before .before .judge .ensures) (c .before .operands .given .1)
+    operands-refused m P s (g .at) (g .item) t held (p .0) e (p .1 .0 .registersFit) (g .program .now) (g .start) read
+    (atRegistersOf .registers-of .ensures) (atCommandAt .command-at .result) (atCommandAt .command-at .ensures .0) (atControlOf .control-of .ensures)
+    (atIf1 .if1 .left) (atSameKind .same-kind .ensures) (not-false _ (atIf2 .if2 .left))
+    (atActionOf .action-of .ensures .0) (atJudge .judge .ensures) (atOperands .operands .given .1)
 
 enum-told : tie.Need-enum-told
 enum-told c = search needs
@@ -72,33 +88,30 @@ take-action-requires c κs = search needs
 
 returns-4 : tie.Need-returns-4
 returns-4 c =
-    let g = c .before .before .before .before .before .before .before .before .before .before .before .before .before .before .before .before .before
-    .before .before .args in
-    let p = c .before .before .before .before .before .before .before .before .before .before .before .before .before .before .before .before .before
-    .before .before .pre in
+    let atEnumTold = c .before .before .before .before .before .before in
+    let atJudge = atEnumTold .before .before in
+    let atActionOf = atJudge .before in
+    let atIf2 = atActionOf .before in
+    let atSameKind = atIf2 .before in
+    let atIf1 = atSameKind .before in
+    let atControlOf = atIf1 .before in
+    let atCommandAt = atControlOf .before .before in
+    let atRegistersOf = atCommandAt .before in
+    let start = atRegistersOf .before .before .before in
+    let g = start .args in
+    let m = memory (g .control .now) (g .registers .now) (g .cells .now) (g .entries .now) (g .counters .now) in
+    let p = start .pre in
     λ P t end e read s held o w.
-    action-follows (memory (g .control .now) (g .registers .now) (g .cells .now) (g .entries .now) (g .counters .now)) P s (g .at) (g .item) t held
-    (p .0) e (p .1 .0 .registersFit) (g .program .now) (g .start) read
-    (c .before .before .before .before .before .before .before .before .before .before .before .before .before .before .before .before .registers-of
-    .ensures) (c .before .before .before .before .before .before .before .before .before .before .before .before .before .before .before
-    .command-at .result) (c .before .before .before .before .before .before .before .before .before .before .before .before .before .before
-    .before .command-at .ensures .0) (c .before .before .before .before .before .before .before .before .before .before .before .before .before
-    .control-of .ensures) (c .before .before .before .before .before .before .before .before .before .before .before .before .if1 .left) (c
-    .before .before .before .before .before .before .before .before .before .before .before .same-kind .ensures) (not-false _ (c .before .before
-    .before .before .before .before .before .before .before .before .if2 .left))
-    (c .before .before .before .before .before .before .before .before .before .action-of .ensures .0) (c .before .before .before .before .before
-    .before .before .before .judge .ensures) (c .before .before .before .before .before .before .enum-told .given .1)
+    action-follows m P s (g .at) (g .item) t held (p .0) e (p .1 .0 .registersFit) (g .program .now) (g .start) read
+    (atRegistersOf .registers-of .ensures) (atCommandAt .command-at .result) (atCommandAt .command-at .ensures .0) (atControlOf .control-of .ensures)
+    (atIf1 .if1 .left) (atSameKind .same-kind .ensures) (not-false _ (atIf2 .if2 .left))
+    (atActionOf .action-of .ensures .0) (atJudge .judge .ensures) (atEnumTold .enum-told .given .1)
     (memory (c .take-action .last .1 .1 .1 .1 .1 .1 .1 .0) (c .take-action .last .1 .1 .1 .1 .1 .1 .1 .1 .0) (c .take-action .last .1 .1 .1 .1 .1 .1
     .1 .1 .1 .0) (c .take-action .last .1 .1 .1 .1 .1 .1 .1 .1 .1 .1 .0) (c .take-action .last .1 .1 .1 .1 .1 .1 .1 .1 .1 .1 .1 .0))
     (c .take-action .result)
     (λ b d. c .take-action .ensures P t b (ap (λ (h : Header). h .ranks) e)
-    (target-is (memory (g .control .now) (g .registers .now) (g .cells .now) (g .entries .now) (g .counters .now)) P s (g .at) (g .item) t held (p
-    .0) e (p .1 .0 .registersFit) (g .program .now) (g .start) read
-    (c .before .before .before .before .before .before .before .before .before .before .before .before .before .before .before .before .registers-of
-    .ensures) (c .before .before .before .before .before .before .before .before .before .before .before .before .before .before .before
-    .command-at .result) (c .before .before .before .before .before .before .before .before .before .before .before .before .before .before
-    .before .command-at .ensures .0) (c .before .before .before .before .before .before .before .before .before .before .before .before .before
-    .control-of .ensures))
+    (target-is m P s (g .at) (g .item) t held (p .0) e (p .1 .0 .registersFit) (g .program .now) (g .start) read
+    (atRegistersOf .registers-of .ensures) (atCommandAt .command-at .result) (atCommandAt .command-at .ensures .0) (atControlOf .control-of .ensures))
     d s held o w)
 
 pub take-command-spec : {M : Type 1} → statement M

@@ -37,7 +37,10 @@ returns c =
     ∙ every-fails _ _ _ (omega (arith, c .before .before .loop-test .taken)) (sym (c .before .rank-quiet .ensures) ∙ not-true _ (c .if1 .taken)))
 
 add-rank : tie.Need-add-rank Inv-loop μ-loop
-add-rank c = record { fits = omega (arith, c .before .before .loop-test .taken, c .before .before .before .before .pre .0) }
+add-rank c =
+    let atTest = c .before .before in
+    let start = atTest .before .before in
+    record { fits = omega (arith, atTest .loop-test .taken, start .pre .0) }
 
 loop-less : tie.Need-loop-less Inv-loop μ-loop
 loop-less c = omega (arith, c .before .before .loop-test .taken)

@@ -15,16 +15,13 @@ row-allows-requires c κs = search needs
 
 returns : tie.Need-returns
 returns c =
-    let g = c .before .before .before .args in
-    let p = c .before .before .before .pre in
+    let atRowAllows = c .before in
+    let start = atRowAllows .before .before in
+    let g = start .args in
+    let m = memory (g .control .now) (g .registers .now) (g .cells .now) (g .entries .now) (g .counters .now) in
     λ P e loaded s held o w.
-    row-refused (g .at + 1) (memory (g .control .now) (g .registers .now) (g .cells .now) (g .entries .now) (g .counters .now)) (memory (g .control
-    .now) (g .registers .now) (g .cells .now) (g .entries .now) (g .counters .now)) (Step.the-variants.Refused (record {
-      number = 12;
-      place = g
-          .at;
-    })) P s (g .at) (g .item) w
-    (c .before .row-allows .ensures) (not-true _ (c .if1 .taken))
+    row-refused (g .at + 1) m m (Step.the-variants.Refused (record { number = 12; place = g .at })) P s (g .at) (g .item) w
+    (atRowAllows .row-allows .ensures) (not-true _ (c .if1 .taken))
 
 part-of-requires : tie.Need-part-of-requires
 part-of-requires c κs = search needs
@@ -37,34 +34,40 @@ cast-transition c = search needs
 
 mul-start : tie.Need-mul-start
 mul-start c =
-    let g = c .before .before .before .before .before .before .before .args in
-    let p = c .before .before .before .before .before .before .before .pre in
+    let atEnumTold = c .before in
+    let atPartOf = atEnumTold .before .before in
+    let start = atPartOf .before .before .before .before in
+    let g = start .args in
+    let p = start .pre in
     let l : g .item .transition < 128 =
     omega (
       arith,
-      p .0 .commands (part-command (partOf (g .item .kind)) (c .before .before .before .part-of .ensures) (c .before .enum-told .given
-          .1)),
-      p .1 .0 .transitionsFit,
+      p .0 .commands (part-command (partOf (g .item .kind)) (atPartOf .part-of .ensures) (atEnumTold .enum-told .given .1)),
+      p .1 .0
+          .transitionsFit,
     ) in
     search needs
 
 element-copy-out-start : tie.Need-element-copy-out-start
 element-copy-out-start c =
-    let g = c .before .before .before .before .before .before .before .args in
-    let p = c .before .before .before .before .before .before .before .pre in
+    let atEnumTold = c .before in
+    let atPartOf = atEnumTold .before .before in
+    let start = atPartOf .before .before .before .before in
+    let g = start .args in
+    let p = start .pre in
     let l : g .item .transition < 128 =
     omega (
       arith,
-      p .0 .commands (part-command (partOf (g .item .kind)) (c .before .before .before .part-of .ensures) (c .before .enum-told .given
-          .1)),
-      p .1 .0 .transitionsFit,
+      p .0 .commands (part-command (partOf (g .item .kind)) (atPartOf .part-of .ensures) (atEnumTold .enum-told .given .1)),
+      p .1 .0
+          .transitionsFit,
     ) in
     l
 
 take-command-requires : tie.Need-take-command-requires
 take-command-requires c κs =
-    let g = c .before .before .before .before .before .before .before .before .before .before .before .before .before .args in
-    let p = c .before .before .before .before .before .before .before .before .before .before .before .before .before .pre in
+    let start = c .before .before .before .before .before .before .before .before .before .before .before .before .before in
+    let p = start .pre in
     (p .0 .rankFits, (p .1 .0, (p .1 .1 .0, (p .1 .1 .1 .0, p .1 .1 .1 .1 .0))))
 
 enum-told-2 : tie.Need-enum-told-2
@@ -72,10 +75,12 @@ enum-told-2 c = search needs
 
 take-fetch-requires : tie.Need-take-fetch-requires
 take-fetch-requires c κs =
-    let g = c .before .before .before .before .before .before .before .before .before .args in
-    let p = c .before .before .before .before .before .before .before .before .before .pre in
-    let (queue, place) = p .0 .fetches (part-fetch (partOf (g .item .kind)) (c .before .before .before .before .before .part-of .ensures) (c .before
-    .before .before .enum-told2 .given .1)) in
+    let atEnumTold2 = c .before .before .before in
+    let atPartOf = atEnumTold2 .before .before in
+    let start = atPartOf .before .before .before .before in
+    let g = start .args in
+    let p = start .pre in
+    let (queue, place) = p .0 .fetches (part-fetch (partOf (g .item .kind)) (atPartOf .part-of .ensures) (atEnumTold2 .enum-told2 .given .1)) in
     (p .0 .rankFits, (queue, (place, (p .1 .1 .0, p .1 .1 .1 .0))))
 
 enum-told-3 : tie.Need-enum-told-3
@@ -83,53 +88,64 @@ enum-told-3 c = search needs
 
 take-delivery-requires : tie.Need-take-delivery-requires
 take-delivery-requires c κs =
-    let g = c .before .before .before .before .before .before .before .before .before .args in
-    let p = c .before .before .before .before .before .before .before .before .before .pre in
-    let (queue, place) = p .0 .delivers (part-delivery (partOf (g .item .kind)) (c .before .before .before .before .before .part-of .ensures) (c
-    .before .before .before .enum-told3 .given .1)) in
+    let atEnumTold3 = c .before .before .before in
+    let atPartOf = atEnumTold3 .before .before in
+    let start = atPartOf .before .before .before .before in
+    let g = start .args in
+    let p = start .pre in
+    let (queue, place) = p .0 .delivers (part-delivery (partOf (g .item .kind)) (atPartOf .part-of .ensures) (atEnumTold3 .enum-told3 .given .1)) in
     (p .0 .rankFits, (queue, (place, (p .1 .1 .0, p .1 .1 .1 .0))))
 
 returns-2 : tie.Need-returns-2
 returns-2 c =
-    let g = c .before .before .before .before .before .before .before .before .before .before .before .before .before .before .args in
-    let p = c .before .before .before .before .before .before .before .before .before .before .before .before .before .before .pre in
+    let atEnumTold = c .before .before .before .before .before .before .before .before in
+    let atPartOf = atEnumTold .before .before in
+    let atIf1 = atPartOf .before in
+    let atRowAllows = atIf1 .before in
+    let start = atRowAllows .before .before in
+    let g = start .args in
+    let m = memory (g .control .now) (g .registers .now) (g .cells .now) (g .entries .now) (g .counters .now) in
+    let p = start .pre in
     λ P e loaded s held o w.
-    let k = part-command (partOf (g .item .kind)) (c .before .before .before .before .before .before .before .before .before .before .part-of
-    .ensures) (c .before .before .before .before .before .before .before .before .enum-told .given .1) in
+    let k = part-command (partOf (g .item .kind)) (atPartOf .part-of .ensures) (atEnumTold .enum-told .given .1) in
     let (t, end, found, read) = command-start P (g .program .now) (g .starts .now) (g .item .transition) e loaded (p .0 .commands k) in
-    command-step (g .at + 1) (memory (g .control .now) (g .registers .now) (g .cells .now) (g .entries .now) (g .counters .now))
+    command-step (g .at + 1) m
     (memory (c .take-command .last .1 .1 .1 .1 .1 .1 .1 .0) (c .take-command .last .1 .1 .1 .1 .1 .1 .1 .1 .0) (c .take-command .last .1 .1 .1 .1 .1
     .1 .1 .1 .1 .0) (c .take-command .last .1 .1 .1 .1 .1 .1 .1 .1 .1 .1 .0) (c .take-command .last .1 .1 .1 .1 .1 .1 .1 .1 .1 .1 .1 .0))
-    (c .take-command .result) P s (g .at) (g .item) w (c .before .before .before .before .before .before .before .before .before .before .before
-    .before .row-allows .ensures) (not-false _ (c .before .before .before .before .before .before .before .before .before .before .before .if1
-    .left)) k t found
+    (c .take-command .result) P s (g .at) (g .item) w (atRowAllows .row-allows .ensures) (not-false _ (atIf1 .if1 .left)) k t found
     (c .take-command .ensures P t end e read s held o w)
 
 returns-3 : tie.Need-returns-3
 returns-3 c =
-    let g = c .before .before .before .before .before .before .before .before .before .before .args in
-    let p = c .before .before .before .before .before .before .before .before .before .before .pre in
+    let atEnumTold2 = c .before .before .before .before in
+    let atPartOf = atEnumTold2 .before .before in
+    let atIf1 = atPartOf .before in
+    let atRowAllows = atIf1 .before in
+    let start = atRowAllows .before .before in
+    let g = start .args in
+    let m = memory (g .control .now) (g .registers .now) (g .cells .now) (g .entries .now) (g .counters .now) in
     λ P e loaded s held o w.
-    let k = part-fetch (partOf (g .item .kind)) (c .before .before .before .before .before .before .part-of .ensures) (c .before .before .before
-    .before .enum-told2 .given .1) in
-    fetch-step (g .at + 1) (memory (g .control .now) (g .registers .now) (g .cells .now) (g .entries .now) (g .counters .now))
+    let k = part-fetch (partOf (g .item .kind)) (atPartOf .part-of .ensures) (atEnumTold2 .enum-told2 .given .1) in
+    fetch-step (g .at + 1) m
     (memory (g .control .now) (g .registers .now) (g .cells .now) (c .take-fetch .last .1 .1 .1 .1 .1 .0) (c .take-fetch .last .1 .1 .1 .1 .1 .1 .0))
-    (c .take-fetch .result) P s (g .at) (g .item) w (c .before .before .before .before .before .before .before .before .row-allows .ensures)
-    (not-false _ (c .before .before .before .before .before .before .before .if1 .left)) k
+    (c .take-fetch .result) P s (g .at) (g .item) w (atRowAllows .row-allows .ensures) (not-false _ (atIf1 .if1 .left)) k
     (c .take-fetch .ensures (g .control .now) (g .registers .now) s held o w)
 
 returns-4 : tie.Need-returns-4
 returns-4 c =
-    let g = c .before .before .before .before .before .before .before .before .before .before .args in
-    let p = c .before .before .before .before .before .before .before .before .before .before .pre in
+    let atEnumTold3 = c .before .before .before .before in
+    let atPartOf = atEnumTold3 .before .before in
+    let atIf1 = atPartOf .before in
+    let atRowAllows = atIf1 .before in
+    let start = atRowAllows .before .before in
+    let g = start .args in
+    let m = memory (g .control .now) (g .registers .now) (g .cells .now) (g .entries .now) (g .counters .now) in
     λ P e loaded s held o w.
-    let k = part-delivery (partOf (g .item .kind)) (c .before .before .before .before .before .before .part-of .ensures) (c .before .before .before
-    .before .enum-told3 .given .1) in
-    delivery-step (g .at + 1) (memory (g .control .now) (g .registers .now) (g .cells .now) (g .entries .now) (g .counters .now))
+    let k = part-delivery (partOf (g .item .kind)) (atPartOf .part-of .ensures) (atEnumTold3 .enum-told3 .given .1) in
+    delivery-step (g .at + 1) m
     (memory (g .control .now) (g .registers .now) (c .take-delivery .last .1 .1 .1 .1 .0) (g .entries .now) (c .take-delivery .last .1 .1 .1 .1 .1 .1
     .0))
-    (c .take-delivery .result) P s (g .at) (g .item) w (c .before .before .before .before .before .before .before .before .row-allows .ensures)
-    (not-false _ (c .before .before .before .before .before .before .before .if1 .left)) k
+    (c .take-delivery .result) P s (g .at) (g .item) w (atRowAllows .row-allows .ensures) (not-false _ (atIf1 .if1 .left)) k
     (c .take-delivery .ensures (g .control .now) (g .registers .now) s held o w)
 
 pub take-item-spec : {M : Type 1} → statement M

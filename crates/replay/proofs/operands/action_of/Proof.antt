@@ -56,13 +56,17 @@ enum-told-9 c = search needs
 
 returns : tie.Need-returns
 returns c =
-    let g = c .before .before .before .args in
-    (c .load .ensures .0 ∙ sym (is-load (g .header) (g .rank) (g .at) (g .command) (c .before .enum-told .given .1)), c .load .ensures .1)
+    let atEnumTold = c .before in
+    let start = atEnumTold .before .before in
+    let g = start .args in
+    (c .load .ensures .0 ∙ sym (is-load (g .header) (g .rank) (g .at) (g .command) (atEnumTold .enum-told .given .1)), c .load .ensures .1)
 
 returns-2 : tie.Need-returns-2
 returns-2 c =
-    let g = c .before .before .before .args in
-    (c .store .ensures .0 ∙ sym (is-store (g .header) (g .rank) (g .at) (g .command) (c .before .enum-told2 .given .1)), c .store .ensures .1)
+    let atEnumTold2 = c .before in
+    let start = atEnumTold2 .before .before in
+    let g = start .args in
+    (c .store .ensures .0 ∙ sym (is-store (g .header) (g .rank) (g .at) (g .command) (atEnumTold2 .enum-told2 .given .1)), c .store .ensures .1)
 
 returns-3 : tie.Need-returns-3
 returns-3 c =
@@ -71,22 +75,30 @@ returns-3 c =
 
 returns-4 : tie.Need-returns-4
 returns-4 c =
-    let g = c .before .before .before .args in
-    (c .assume .ensures .0 ∙ sym (is-assume (g .header) (g .rank) (g .at) (g .command) (c .before .enum-told4 .given .1)), c .assume .ensures .1)
+    let atEnumTold4 = c .before in
+    let start = atEnumTold4 .before .before in
+    let g = start .args in
+    (c .assume .ensures .0 ∙ sym (is-assume (g .header) (g .rank) (g .at) (g .command) (atEnumTold4 .enum-told4 .given .1)), c .assume .ensures .1)
 
 returns-5 : tie.Need-returns-5
 returns-5 c =
-    let g = c .before .before .before .before .args in (
-      c .read .ensures .0 ∙ ap readAction (c .before .transfer .ensures .0) ∙ sym (is-read (g .header) (g .rank) (g .at) (g .command) (c .before
-          .before .enum-told5 .given .1)),
+    let atTransfer = c .before in
+    let atEnumTold5 = atTransfer .before in
+    let start = atEnumTold5 .before .before in
+    let g = start .args in (
+      c .read .ensures .0 ∙ ap readAction (atTransfer .transfer .ensures .0) ∙ sym (is-read (g .header) (g .rank) (g .at) (g .command) (atEnumTold5
+          .enum-told5 .given .1)),
       c .read .ensures .1,
     )
 
 returns-6 : tie.Need-returns-6
 returns-6 c =
-    let g = c .before .before .before .before .args in (
-      c .write .ensures .0 ∙ ap writeAction (c .before .transfer2 .ensures .0) ∙ sym (is-write (g .header) (g .rank) (g .at) (g .command) (c .before
-          .before .enum-told6 .given .1)),
+    let atTransfer2 = c .before in
+    let atEnumTold6 = atTransfer2 .before in
+    let start = atEnumTold6 .before .before in
+    let g = start .args in (
+      c .write .ensures .0 ∙ ap writeAction (atTransfer2 .transfer2 .ensures .0) ∙ sym (is-write (g .header) (g .rank) (g .at) (g .command)
+          (atEnumTold6 .enum-told6 .given .1)),
       c .write .ensures .1,
     )
 

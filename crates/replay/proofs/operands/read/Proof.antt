@@ -10,7 +10,10 @@ enum-known-operands-2 : tie.Need-enum-known-operands-2
 enum-known-operands-2 c = search needs
 
 returns : tie.Need-returns
-returns c = (rw (c .before .operands .given .1), rw (c .before .operands .given .1) at (c .before .before .before .pre))
+returns c =
+    let atOperands = c .before in
+    let start = atOperands .before .before in
+    (rw (atOperands .operands .given .1), rw (atOperands .operands .given .1) at (start .pre))
 
 returns-2 : tie.Need-returns-2
 returns-2 c = (rw (c .before .operands2 .given .1), tt)

@@ -18,26 +18,34 @@ enum-told c = search needs
 
 returns : tie.Need-returns
 returns c =
-    let a = c .before .before .before .before .before .args in
-    let p = c .before .before .before .before .before .pre in
+    let atOldestDelivery = c .before .before in
+    let start = atOldestDelivery .before .before .before in
+    let a = start .args in
+    let p = start .pre in
     λ control registers s held o w.
     delivery-none (memory control registers (a .cells .now) (a .entries .now) (a .counters .now)) s (a .item) (a .at) held (p .0) (p .1 .0)
-    (c .before .before .oldest-delivery .ensures) (c .enum-told .given .1)
+    (atOldestDelivery .oldest-delivery .ensures) (c .enum-told .given .1)
 
 value-at-requires : tie.Need-value-at-requires
 value-at-requires c κs =
-    let a = c .before .before .before .before .before .before .args in
-    let p = c .before .before .before .before .before .before .pre in
+    let atHead = c .before in
+    let atOldestDelivery = atHead .before .before in
+    let start = atOldestDelivery .before .before .before in
+    let a = start .args in
+    let p = start .pre in
     let (fits, _) = delivery-slot (a .counters .now) (a .at) (a .item .rank) (a .item .queue) (p .0) (p .1 .0) (p .1 .1 .1 .0) (p .1 .1 .1 .1)
-    (c .before .head .given .1) (c .before .before .before .oldest-delivery .ensures) in
+    (atHead .head .given .1) (atOldestDelivery .oldest-delivery .ensures) in
     (p .0, (p .1 .0, fits))
 
 names-requires : tie.Need-names-requires
 names-requires c κs =
-    let a = c .before .before .before .before .before .before .before .args in
-    let p = c .before .before .before .before .before .before .before .pre in
+    let atHead = c .before .before in
+    let atOldestDelivery = atHead .before .before in
+    let start = atOldestDelivery .before .before .before in
+    let a = start .args in
+    let p = start .pre in
     let (fits, _) = delivery-slot (a .counters .now) (a .at) (a .item .rank) (a .item .queue) (p .0) (p .1 .0) (p .1 .1 .1 .0) (p .1 .1 .1 .1)
-    (c .before .before .head .given .1) (c .before .before .before .before .oldest-delivery .ensures) in
+    (atHead .head .given .1) (atOldestDelivery .oldest-delivery .ensures) in
     (p .0, (p .1 .0, (fits, omega arith)))
 
 agrees-there-requires : tie.Need-agrees-there-requires
@@ -45,53 +53,70 @@ agrees-there-requires c κs = search needs
 
 group-at-requires : tie.Need-group-at-requires
 group-at-requires c κs =
-    let a = c .before .before .before .before .before .before .before .before .before .before .args in
-    let p = c .before .before .before .before .before .before .before .before .before .before .pre in
+    let atHead = c .before .before .before .before .before in
+    let atOldestDelivery = atHead .before .before in
+    let start = atOldestDelivery .before .before .before in
+    let a = start .args in
+    let p = start .pre in
     let (fits, _) = delivery-slot (a .counters .now) (a .at) (a .item .rank) (a .item .queue) (p .0) (p .1 .0) (p .1 .1 .1 .0) (p .1 .1 .1 .1)
-    (c .before .before .before .before .before .head .given .1) (c .before .before .before .before .before .before .before .oldest-delivery .ensures)
-    in
+    (atHead .head .given .1) (atOldestDelivery .oldest-delivery .ensures) in
     (p .0, (p .1 .0, fits))
 
 deliver-requires : tie.Need-deliver-requires
 deliver-requires c κs =
-    let a = c .before .before .before .before .before .before .before .before .before .before .before .before .args in
-    let p = c .before .before .before .before .before .before .before .before .before .before .before .before .pre in
+    let atHead = c .before .before .before .before .before .before .before in
+    let atOldestDelivery = atHead .before .before in
+    let start = atOldestDelivery .before .before .before in
+    let a = start .args in
+    let p = start .pre in
     let (_, fits) = delivery-slot (a .counters .now) (a .at) (a .item .rank) (a .item .queue) (p .0) (p .1 .0) (p .1 .1 .1 .0) (p .1 .1 .1 .1)
-    (c .before .before .before .before .before .before .before .head .given .1) (c .before .before .before .before .before .before .before .before
-    .before .oldest-delivery .ensures) in
+    (atHead .head .given .1) (atOldestDelivery .oldest-delivery .ensures) in
     (p .0, (p .1 .0, fits))
 
 set-cell-requires : tie.Need-set-cell-requires
-set-cell-requires c κs = c .before .before .before .before .before .before .before .before .before .before .before .before .before .before .pre .1 .1
-    .0
+set-cell-requires c κs =
+    let start = c .before .before .before .before .before .before .before .before .before .before .before .before .before .before in
+    start .pre .1 .1 .0
 
 write-of-requires : tie.Need-write-of-requires
-write-of-requires c κs = c .before .before .before .before .before .before .before .before .before .before .before .before .before .before .before
-    .pre .1 .1 .0
+write-of-requires c κs =
+    let start = c .before .before .before .before .before .before .before .before .before .before .before .before .before .before .before in
+    start .pre .1 .1 .0
 
 returns-2 : tie.Need-returns-2
 returns-2 c =
-    let a = c .before .before .before .before .before .before .before .before .before .before .before .before .before .before .before .before .args in
-    let p = c .before .before .before .before .before .before .before .before .before .before .before .before .before .before .before .before .pre in
+    let atSetCell = c .before in
+    let atDeliver = atSetCell .before .before in
+    let atGroupAt = atDeliver .before .before in
+    let atIf1 = atGroupAt .before in
+    let atAgreesThere = atIf1 .before in
+    let atNames = atAgreesThere .before in
+    let atValueAt = atNames .before in
+    let atHead = atValueAt .before .before in
+    let atOldestDelivery = atHead .before .before in
+    let start = atOldestDelivery .before .before .before in
+    let a = start .args in
+    let p = start .pre in
     λ control registers s held o w.
     delivery-taken (memory control registers (a .cells .now) (a .entries .now) (a .counters .now)) s (a .item) (a .at) held (p .0) (p .1 .0)
-    (c .before .before .before .before .before .before .before .before .before .before .before .head .given .1) (c .before .before .before .before
-    .before .before .before .agrees-there .ensures) (c .before .before .before .before .before .before .before .before .before .before .before
-    .before .before .oldest-delivery .ensures) (c .before .before .before .before .before .before .before .before .names .ensures)
-    (c .before .before .before .before .before .before .before .before .before .value-at .ensures) (c .before .before .before .before .before .before
-    .if1 .taken) (p .1 .1 .0) (le-of-lt (p .1 .1 .1 .0)) o w
-    (c .before .before .before .before .before .group-at .ensures) (c .write-of .ensures) (c .before .set-cell .ensures) (c .before .before .before
-    .deliver .ensures)
+    (atHead .head .given .1) (atAgreesThere .agrees-there .ensures) (atOldestDelivery .oldest-delivery .ensures) (atNames .names .ensures)
+    (atValueAt .value-at .ensures) (atIf1 .if1 .taken) (p .1 .1 .0) (le-of-lt (p .1 .1 .1 .0)) o w
+    (atGroupAt .group-at .ensures) (c .write-of .ensures) (atSetCell .set-cell .ensures) (atDeliver .deliver .ensures)
 
 returns-3 : tie.Need-returns-3
 returns-3 c =
-    let a = c .before .before .before .before .before .before .before .before .before .before .args in
-    let p = c .before .before .before .before .before .before .before .before .before .before .pre in
+    let atAgreesThere = c .before in
+    let atNames = atAgreesThere .before in
+    let atValueAt = atNames .before in
+    let atHead = atValueAt .before .before in
+    let atOldestDelivery = atHead .before .before in
+    let start = atOldestDelivery .before .before .before in
+    let a = start .args in
+    let p = start .pre in
     λ control registers s held o w.
     delivery-refused (memory control registers (a .cells .now) (a .entries .now) (a .counters .now)) s (a .item) (a .at) held (p .0) (p .1 .0)
-    (c .before .before .before .before .before .head .given .1) (c .before .agrees-there .ensures) (c .before .before .before .before .before .before
-    .before .oldest-delivery .ensures) (c .before .before .names .ensures)
-    (c .before .before .before .value-at .ensures) (c .if1 .left)
+    (atHead .head .given .1) (atAgreesThere .agrees-there .ensures) (atOldestDelivery .oldest-delivery .ensures) (atNames .names .ensures)
+    (atValueAt .value-at .ensures) (c .if1 .left)
 
 pub take-delivery-spec : {M : Type 1} → statement M
 take-delivery-spec =

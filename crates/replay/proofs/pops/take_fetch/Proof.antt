@@ -19,21 +19,26 @@ enum-told c = search needs
 
 returns : tie.Need-returns
 returns c =
-    let a = c .before .before .before .before .before .args in
-    let p = c .before .before .before .before .before .pre in
+    let atOldestRequest = c .before .before in
+    let start = atOldestRequest .before .before .before in
+    let a = start .args in
+    let p = start .pre in
     λ control registers s held o w.
     fetch-none (memory control registers (a .cells .now) (a .entries .now) (a .counters .now)) s (a .item) (a .at) held (p .0) (p .1 .0)
-    (c .before .before .oldest-request .ensures) (c .enum-told .given .1)
+    (atOldestRequest .oldest-request .ensures) (c .enum-told .given .1)
 
 cell-at-requires : tie.Need-cell-at-requires
 cell-at-requires c κs = search needs
 
 names-requires : tie.Need-names-requires
 names-requires c κs =
-    let a = c .before .before .before .before .before .before .before .before .args in
-    let p = c .before .before .before .before .before .before .before .before .pre in
+    let atHead = c .before .before .before in
+    let atOldestRequest = atHead .before .before in
+    let start = atOldestRequest .before .before .before in
+    let a = start .args in
+    let p = start .pre in
     let (fits, _) = request-slot (a .counters .now) (a .at) (a .item .rank) (a .item .queue) (p .0) (p .1 .0) (p .1 .1 .1 .0) (p .1 .1 .1 .1)
-    (c .before .before .before .head .given .1) (c .before .before .before .before .before .oldest-request .ensures) in
+    (atHead .head .given .1) (atOldestRequest .oldest-request .ensures) in
     (p .0, (p .1 .0, (fits, omega arith)))
 
 agrees-there-requires : tie.Need-agrees-there-requires
@@ -41,20 +46,24 @@ agrees-there-requires c κs = search needs
 
 group-at-requires : tie.Need-group-at-requires
 group-at-requires c κs =
-    let a = c .before .before .before .before .before .before .before .before .before .before .before .before .args in
-    let p = c .before .before .before .before .before .before .before .before .before .before .before .before .pre in
+    let atHead = c .before .before .before .before .before .before .before in
+    let atOldestRequest = atHead .before .before in
+    let start = atOldestRequest .before .before .before in
+    let a = start .args in
+    let p = start .pre in
     let (fits, _) = request-slot (a .counters .now) (a .at) (a .item .rank) (a .item .queue) (p .0) (p .1 .0) (p .1 .1 .1 .0) (p .1 .1 .1 .1)
-    (c .before .before .before .before .before .before .before .head .given .1) (c .before .before .before .before .before .before .before .before
-    .before .oldest-request .ensures) in
+    (atHead .head .given .1) (atOldestRequest .oldest-request .ensures) in
     (p .0, (p .1 .0, fits))
 
 fetch-requires : tie.Need-fetch-requires
 fetch-requires c κs =
-    let a = c .before .before .before .before .before .before .before .before .before .before .before .before .before .before .before .args in
-    let p = c .before .before .before .before .before .before .before .before .before .before .before .before .before .before .before .pre in
+    let atHead = c .before .before .before .before .before .before .before .before .before .before in
+    let atOldestRequest = atHead .before .before in
+    let start = atOldestRequest .before .before .before in
+    let a = start .args in
+    let p = start .pre in
     let (_, fits) = request-slot (a .counters .now) (a .at) (a .item .rank) (a .item .queue) (p .0) (p .1 .0) (p .1 .1 .1 .0) (p .1 .1 .1 .1)
-    (c .before .before .before .before .before .before .before .before .before .before .head .given .1) (c .before .before .before .before .before
-    .before .before .before .before .before .before .before .oldest-request .ensures) in
+    (atHead .head .given .1) (atOldestRequest .oldest-request .ensures) in
     (p .0, (p .1 .0, fits))
 
 read-of-requires : tie.Need-read-of-requires
@@ -62,29 +71,37 @@ read-of-requires c κs = search needs
 
 returns-2 : tie.Need-returns-2
 returns-2 c =
-    let a = c .before .before .before .before .before .before .before .before .before .before .before .before .before .before .before .before .before
-    .args in
-    let p = c .before .before .before .before .before .before .before .before .before .before .before .before .before .before .before .before .before
-    .pre in
+    let atFetch = c .before in
+    let atGroupAt = atFetch .before .before .before in
+    let atIf1 = atGroupAt .before .before in
+    let atAgreesThere = atIf1 .before in
+    let atNames = atAgreesThere .before in
+    let atCellAt = atNames .before .before in
+    let atHead = atCellAt .before .before in
+    let atOldestRequest = atHead .before .before in
+    let start = atOldestRequest .before .before .before in
+    let a = start .args in
+    let p = start .pre in
     λ control registers s held o w.
     fetch-taken (memory control registers (a .cells .now) (a .entries .now) (a .counters .now)) s (a .item) (a .at) held (p .0) (p .1 .0)
-    (c .before .before .before .before .before .before .before .before .before .before .before .before .head .given .1) (c .before .before .before
-    .before .before .before .before .agrees-there .ensures) (c .before .before .before .before .before .before .before .before .before .before
-    .before .before .before .before .oldest-request .ensures) (c .before .before .before .before .before .before .before .before .names .ensures)
-    (p .1 .1 .0)
-    (c .before .before .before .before .before .before .before .before .before .before .cell-at .ensures) (c .before .before .before .before .before
-    .before .if1 .taken) (le-of-lt (p .1 .1 .1 .0)) o w
-    (c .before .before .before .before .group-at .ensures) (c .read-of .ensures) (c .before .fetch .ensures .0) (c .before .fetch .ensures .1)
+    (atHead .head .given .1) (atAgreesThere .agrees-there .ensures) (atOldestRequest .oldest-request .ensures) (atNames .names .ensures) (p .1 .1 .0)
+    (atCellAt .cell-at .ensures) (atIf1 .if1 .taken) (le-of-lt (p .1 .1 .1 .0)) o w
+    (atGroupAt .group-at .ensures) (c .read-of .ensures) (atFetch .fetch .ensures .0) (atFetch .fetch .ensures .1)
 
 returns-3 : tie.Need-returns-3
 returns-3 c =
-    let a = c .before .before .before .before .before .before .before .before .before .before .before .args in
-    let p = c .before .before .before .before .before .before .before .before .before .before .before .pre in
+    let atAgreesThere = c .before in
+    let atNames = atAgreesThere .before in
+    let atCellAt = atNames .before .before in
+    let atHead = atCellAt .before .before in
+    let atOldestRequest = atHead .before .before in
+    let start = atOldestRequest .before .before .before in
+    let a = start .args in
+    let p = start .pre in
     λ control registers s held o w.
     fetch-refused (memory control registers (a .cells .now) (a .entries .now) (a .counters .now)) s (a .item) (a .at) held (p .0) (p .1 .0)
-    (c .before .before .before .before .before .before .head .given .1) (c .before .agrees-there .ensures) (c .before .before .before .before .before
-    .before .before .before .oldest-request .ensures) (c .before .before .names .ensures) (p .1 .1 .0)
-    (c .before .before .before .before .cell-at .ensures) (c .if1 .left)
+    (atHead .head .given .1) (atAgreesThere .agrees-there .ensures) (atOldestRequest .oldest-request .ensures) (atNames .names .ensures) (p .1 .1 .0)
+    (atCellAt .cell-at .ensures) (c .if1 .left)
 
 pub take-fetch-spec : {M : Type 1} → statement M
 take-fetch-spec =

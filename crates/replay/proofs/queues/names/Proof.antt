@@ -27,15 +27,21 @@ wide-requires c κs = search needs
 -- src/queues.rt:122:1
 returns : tie.Need-returns
 returns c =
-    let a = c .before .before .before .before .args in
-    ranks-equal (a .place) (c .before .wide .ensures) (c .before .before .before .number-at .ensures) (c .before .before .number-at2 .ensures) (c
-    .if1 .taken)
+    let atWide = c .before in
+    let atNumberAt2 = atWide .before in
+    let atNumberAt = atNumberAt2 .before in
+    let start = atNumberAt .before in
+    let a = start .args in
+    ranks-equal (a .place) (atWide .wide .ensures) (atNumberAt .number-at .ensures) (atNumberAt2 .number-at2 .ensures) (c .if1 .taken)
 
 returns-2 : tie.Need-returns-2
 returns-2 c =
-    let a = c .before .before .before .before .args in
-    ranks-differ (a .place) (c .before .wide .ensures) (c .before .before .before .number-at .ensures) (c .before .before .number-at2 .ensures) (c
-    .if1 .left)
+    let atWide = c .before in
+    let atNumberAt2 = atWide .before in
+    let atNumberAt = atNumberAt2 .before in
+    let start = atNumberAt .before in
+    let a = start .args in
+    ranks-differ (a .place) (atWide .wide .ensures) (atNumberAt .number-at .ensures) (atNumberAt2 .number-at2 .ensures) (c .if1 .left)
 
 pub names-spec : {M : Type 1} → statement M
 names-spec =

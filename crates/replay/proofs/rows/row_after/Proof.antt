@@ -16,22 +16,20 @@ returns c = rw (sym (c .before .is-bar .ensures) ∙ not-true _ (c .if1 .taken))
 returns-2 : tie.Need-returns-2
 unfolding rowAfter
 returns-2 c =
-    let a = c .before .before .before .before .args in
-    rw (
-      sym (c .before .before .before .is-bar .ensures) ∙ not-false _ (c .before .before .if1 .left),
-      eq-eqb (a .item .rank) (a .ranks) (c .if2
-          .taken),
-    )
+    let atIf1 = c .before .before in
+    let atIsBar = atIf1 .before in
+    let start = atIsBar .before in
+    let a = start .args in
+    rw (sym (atIsBar .is-bar .ensures) ∙ not-false _ (atIf1 .if1 .left), eq-eqb (a .item .rank) (a .ranks) (c .if2 .taken))
 
 returns-3 : tie.Need-returns-3
 unfolding rowAfter
 returns-3 c =
-    let a = c .before .before .before .before .args in
-    rw (
-      sym (c .before .before .before .is-bar .ensures) ∙ not-false _ (c .before .before .if1 .left),
-      ne-eqb (a .item .rank) (a .ranks) (c .if2
-          .left),
-    )
+    let atIf1 = c .before .before in
+    let atIsBar = atIf1 .before in
+    let start = atIsBar .before in
+    let a = start .args in
+    rw (sym (atIsBar .is-bar .ensures) ∙ not-false _ (atIf1 .if1 .left), ne-eqb (a .item .rank) (a .ranks) (c .if2 .left))
 
 pub row-after-spec : {M : Type 1} → statement M
 row-after-spec = tie.close (tie.spec is-bar-requires returns returns-2 returns-3)

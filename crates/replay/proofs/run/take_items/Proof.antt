@@ -55,7 +55,8 @@ returns c p i begun =
 
 take-item-requires : tie.Need-take-item-requires Inv-loop μ-loop
 take-item-requires c κs =
-    let atRead = c .before .before .before .before .before .before in
+    let atBefore = c .before .before .before .before .before in
+    let atRead = atBefore .before in
     let atItem = atRead .before .before in
     let atLoop = atItem .before .before in
     let pre = atLoop .before .before .before .pre in
@@ -96,10 +97,11 @@ returns-2 c p i begun =
 -- The index of an item that was taken.
 small : tie.Need-element-write-groups Inv-loop μ-loop
 small c =
-    let atLoop = c .before .before .before .before .before .before .before .before .before .before .before .before .before .before in
+    let atBefore = c .before .before .before .before .before .before .before .before .before .before .before .before .before in
+    let atLoop = atBefore .before in
     omega (
       arith,
-      c .before .before .before .before .before .before .before .before .before .before .before .before .before .loop-test .taken,
+      atBefore .loop-test .taken,
       atLoop .before .before .before .pre .1 .0 .few,
     )
 
@@ -120,7 +122,8 @@ add-at c = record { fits = omega (arith, small c) }
 
 loop-less : tie.Need-loop-less Inv-loop μ-loop
 loop-less c =
-    omega (arith, c .before .before .before .before .before .before .before .before .before .before .before .before .before .loop-test .taken)
+    let atTest = c .before .before .before .before .before .before .before .before .before .before .before .before .before in
+    omega (arith, atTest .loop-test .taken)
 
 loop-again : tie.Need-loop-again Inv-loop μ-loop
 loop-again c p i begun =

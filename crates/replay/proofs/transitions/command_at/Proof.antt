@@ -43,12 +43,16 @@ values-of-requires c κs = search needs
 
 returns-2 : tie.Need-returns-2
 returns-2 c =
-    let g = c .before .before .before .before .before .before .before .before .args in (
-      (λ h. command-is (g .header) (g .rank) (g .registers) (g .program .now) (g .at) (c .before .before .before .before .before .byte-at .ensures)
-          (c .before .before .before .before .kind-of .ensures)
-          (c .before .before .before .byte-at2 .ensures) (c .before .before .byte-at3 .ensures) (c .before .register-at .ensures .0) (c .values-of
-          .ensures)),
-      c .before .register-at .ensures .1,
+    let atRegisterAt = c .before in
+    let atByteAt3 = atRegisterAt .before in
+    let atByteAt2 = atByteAt3 .before in
+    let atKindOf = atByteAt2 .before in
+    let atByteAt = atKindOf .before in
+    let start = atByteAt .before .before .before in
+    let g = start .args in (
+      (λ h. command-is (g .header) (g .rank) (g .registers) (g .program .now) (g .at) (atByteAt .byte-at .ensures) (atKindOf .kind-of .ensures)
+          (atByteAt2 .byte-at2 .ensures) (atByteAt3 .byte-at3 .ensures) (atRegisterAt .register-at .ensures .0) (c .values-of .ensures)),
+      atRegisterAt .register-at .ensures .1,
     )
 
 pub command-at-spec : {M : Type 1} → statement M

@@ -20,9 +20,12 @@ none-requires c κs = search needs
 
 returns : tie.Need-returns
 returns c =
-    let g = c .before .before .before .before .before .args in
-    c .none .ensures ∙ sym (none-there (expressionValue (g .header) (g .rank) (g .registers) (g .bytes .now)) (g .at) (c .before .before .before
-    .evaluate .ensures) _ _ (c .before .enum-told .given .1))
+    let atEnumTold = c .before in
+    let atEvaluate = atEnumTold .before .before in
+    let start = atEvaluate .before .before in
+    let g = start .args in
+    c .none .ensures ∙ sym (none-there (expressionValue (g .header) (g .rank) (g .registers) (g .bytes .now)) (g .at) (atEvaluate .evaluate .ensures)
+    _ _ (atEnumTold .enum-told .given .1))
 
 evaluate-requires-2 : tie.Need-evaluate-requires-2
 evaluate-requires-2 c κs = search needs
@@ -38,11 +41,16 @@ none-requires-2 c κs = search needs
 
 returns-2 : tie.Need-returns-2
 returns-2 c =
-    let g = c .before .before .before .before .before .before .before .before .before .args in
-    c .none2 .ensures ∙ sym (one-there (expressionValue (g .header) (g .rank) (g .registers) (g .bytes .now)) (g .at) (c .before .before .before
-    .before .before .before .before .evaluate .ensures) _ _ (c .before .before .before .before .before .first .given .1)
-    ∙ none-there (expressionValue (g .header) (g .rank) (g .registers) (g .bytes .now)) (c .before .before .before .before .before .first .given .0
-    .1 .0) (c .before .before .before .evaluate2 .ensures) _ _ (c .before .enum-told2 .given .1))
+    let atEnumTold2 = c .before in
+    let atEvaluate2 = atEnumTold2 .before .before in
+    let atFirst = atEvaluate2 .before .before in
+    let atEvaluate = atFirst .before .before in
+    let start = atEvaluate .before .before in
+    let g = start .args in
+    c .none2 .ensures ∙ sym (one-there (expressionValue (g .header) (g .rank) (g .registers) (g .bytes .now)) (g .at) (atEvaluate .evaluate .ensures)
+    _ _ (atFirst .first .given .1)
+    ∙ none-there (expressionValue (g .header) (g .rank) (g .registers) (g .bytes .now)) (atFirst .first .given .0 .1 .0) (atEvaluate2 .evaluate2
+    .ensures) _ _ (atEnumTold2 .enum-told2 .given .1))
 
 evaluate-requires-3 : tie.Need-evaluate-requires-3
 evaluate-requires-3 c κs = search needs
@@ -58,15 +66,20 @@ none-requires-3 c κs = search needs
 
 returns-3 : tie.Need-returns-3
 returns-3 c =
-    let g = c .before .before .before .before .before .before .before .before .before .before .before .before .before .args in
-    c .none3 .ensures ∙ sym (one-there (expressionValue (g .header) (g .rank) (g .registers) (g .bytes .now)) (g .at) (c .before .before .before
-    .before .before .before .before .before .before .before .before .evaluate .ensures) _ _ (c .before .before .before .before .before .before
-    .before .before .before .first .given .1)
-    ∙ one-there (expressionValue (g .header) (g .rank) (g .registers) (g .bytes .now)) (c .before .before .before .before .before .before .before
-    .before .before .first .given .0 .1 .0) (c .before .before .before .before .before .before .before .evaluate2 .ensures) _ _ (c .before
-    .before .before .before .before .second .given .1)
-    ∙ none-there (expressionValue (g .header) (g .rank) (g .registers) (g .bytes .now)) (c .before .before .before .before .before .second .given .0
-    .1 .0) (c .before .before .before .evaluate3 .ensures) _ _ (c .before .enum-told3 .given .1))
+    let atEnumTold3 = c .before in
+    let atEvaluate3 = atEnumTold3 .before .before in
+    let atSecond = atEvaluate3 .before .before in
+    let atEvaluate2 = atSecond .before .before in
+    let atFirst = atEvaluate2 .before .before in
+    let atEvaluate = atFirst .before .before in
+    let start = atEvaluate .before .before in
+    let g = start .args in
+    c .none3 .ensures ∙ sym (one-there (expressionValue (g .header) (g .rank) (g .registers) (g .bytes .now)) (g .at) (atEvaluate .evaluate .ensures)
+    _ _ (atFirst .first .given .1)
+    ∙ one-there (expressionValue (g .header) (g .rank) (g .registers) (g .bytes .now)) (atFirst .first .given .0 .1 .0) (atEvaluate2 .evaluate2
+    .ensures) _ _ (atSecond .second .given .1)
+    ∙ none-there (expressionValue (g .header) (g .rank) (g .registers) (g .bytes .now)) (atSecond .second .given .0 .1 .0) (atEvaluate3 .evaluate3
+    .ensures) _ _ (atEnumTold3 .enum-told3 .given .1))
 
 evaluate-requires-4 : tie.Need-evaluate-requires-4
 evaluate-requires-4 c κs = search needs
@@ -82,35 +95,45 @@ none-requires-4 c κs = search needs
 
 returns-4 : tie.Need-returns-4
 returns-4 c =
-    let g = c .before .before .before .before .before .before .before .before .before .before .before .before .before .before .before .before .before
-    .args in
-    c .none4 .ensures ∙ sym (one-there (expressionValue (g .header) (g .rank) (g .registers) (g .bytes .now)) (g .at) (c .before .before .before
-    .before .before .before .before .before .before .before .before .before .before .before .before .evaluate .ensures) _ _ (c .before .before
-    .before .before .before .before .before .before .before .before .before .before .before .first .given .1)
-    ∙ one-there (expressionValue (g .header) (g .rank) (g .registers) (g .bytes .now)) (c .before .before .before .before .before .before .before
-    .before .before .before .before .before .before .first .given .0 .1 .0) (c .before .before .before .before .before .before .before .before
-    .before .before .before .evaluate2 .ensures) _ _ (c .before .before .before .before .before .before .before .before .before .second .given .1)
-    ∙ one-there (expressionValue (g .header) (g .rank) (g .registers) (g .bytes .now)) (c .before .before .before .before .before .before .before
-    .before .before .second .given .0 .1 .0) (c .before .before .before .before .before .before .before .evaluate3 .ensures) _ _ (c .before
-    .before .before .before .before .third .given .1)
-    ∙ none-there (expressionValue (g .header) (g .rank) (g .registers) (g .bytes .now)) (c .before .before .before .before .before .third .given .0
-    .1 .0) (c .before .before .before .evaluate4 .ensures) _ _ (c .before .enum-told4 .given .1))
+    let atEnumTold4 = c .before in
+    let atEvaluate4 = atEnumTold4 .before .before in
+    let atThird = atEvaluate4 .before .before in
+    let atEvaluate3 = atThird .before .before in
+    let atSecond = atEvaluate3 .before .before in
+    let atEvaluate2 = atSecond .before .before in
+    let atFirst = atEvaluate2 .before .before in
+    let atEvaluate = atFirst .before .before in
+    let start = atEvaluate .before .before in
+    let g = start .args in
+    c .none4 .ensures ∙ sym (one-there (expressionValue (g .header) (g .rank) (g .registers) (g .bytes .now)) (g .at) (atEvaluate .evaluate .ensures)
+    _ _ (atFirst .first .given .1)
+    ∙ one-there (expressionValue (g .header) (g .rank) (g .registers) (g .bytes .now)) (atFirst .first .given .0 .1 .0) (atEvaluate2 .evaluate2
+    .ensures) _ _ (atSecond .second .given .1)
+    ∙ one-there (expressionValue (g .header) (g .rank) (g .registers) (g .bytes .now)) (atSecond .second .given .0 .1 .0) (atEvaluate3 .evaluate3
+    .ensures) _ _ (atThird .third .given .1)
+    ∙ none-there (expressionValue (g .header) (g .rank) (g .registers) (g .bytes .now)) (atThird .third .given .0 .1 .0) (atEvaluate4 .evaluate4
+    .ensures) _ _ (atEnumTold4 .enum-told4 .given .1))
 
 returns-5 : tie.Need-returns-5
 returns-5 c =
-    let g = c .before .before .before .before .before .before .before .before .before .before .before .before .before .before .before .before .before
-    .args in
-    sym (one-there (expressionValue (g .header) (g .rank) (g .registers) (g .bytes .now)) (g .at) (c .before .before .before .before .before .before
-    .before .before .before .before .before .before .before .before .before .evaluate .ensures) _ _ (c .before .before .before .before .before
-    .before .before .before .before .before .before .before .before .first .given .1)
-    ∙ one-there (expressionValue (g .header) (g .rank) (g .registers) (g .bytes .now)) (c .before .before .before .before .before .before .before
-    .before .before .before .before .before .before .first .given .0 .1 .0) (c .before .before .before .before .before .before .before .before
-    .before .before .before .evaluate2 .ensures) _ _ (c .before .before .before .before .before .before .before .before .before .second .given .1)
-    ∙ one-there (expressionValue (g .header) (g .rank) (g .registers) (g .bytes .now)) (c .before .before .before .before .before .before .before
-    .before .before .second .given .0 .1 .0) (c .before .before .before .before .before .before .before .evaluate3 .ensures) _ _ (c .before
-    .before .before .before .before .third .given .1)
-    ∙ one-there (expressionValue (g .header) (g .rank) (g .registers) (g .bytes .now)) (c .before .before .before .before .before .third .given .0 .1
-    .0) (c .before .before .before .evaluate4 .ensures) _ _ (c .before .fourth .given .1))
+    let atFourth = c .before in
+    let atEvaluate4 = atFourth .before .before in
+    let atThird = atEvaluate4 .before .before in
+    let atEvaluate3 = atThird .before .before in
+    let atSecond = atEvaluate3 .before .before in
+    let atEvaluate2 = atSecond .before .before in
+    let atFirst = atEvaluate2 .before .before in
+    let atEvaluate = atFirst .before .before in
+    let start = atEvaluate .before .before in
+    let g = start .args in
+    sym (one-there (expressionValue (g .header) (g .rank) (g .registers) (g .bytes .now)) (g .at) (atEvaluate .evaluate .ensures) _ _ (atFirst .first
+    .given .1)
+    ∙ one-there (expressionValue (g .header) (g .rank) (g .registers) (g .bytes .now)) (atFirst .first .given .0 .1 .0) (atEvaluate2 .evaluate2
+    .ensures) _ _ (atSecond .second .given .1)
+    ∙ one-there (expressionValue (g .header) (g .rank) (g .registers) (g .bytes .now)) (atSecond .second .given .0 .1 .0) (atEvaluate3 .evaluate3
+    .ensures) _ _ (atThird .third .given .1)
+    ∙ one-there (expressionValue (g .header) (g .rank) (g .registers) (g .bytes .now)) (atThird .third .given .0 .1 .0) (atEvaluate4 .evaluate4
+    .ensures) _ _ (atFourth .fourth .given .1))
 
 pub four-spec : {M : Type 1} → statement M
 four-spec =

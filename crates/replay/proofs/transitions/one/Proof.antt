@@ -20,15 +20,21 @@ none-requires c κs = search needs
 
 returns : tie.Need-returns
 returns c =
-    let g = c .before .before .before .before .before .args in
-    c .none .ensures ∙ sym (none-there (expressionValue (g .header) (g .rank) (g .registers) (g .bytes .now)) (g .at) (c .before .before .before
-    .evaluate .ensures) _ _ (c .before .enum-told .given .1))
+    let atEnumTold = c .before in
+    let atEvaluate = atEnumTold .before .before in
+    let start = atEvaluate .before .before in
+    let g = start .args in
+    c .none .ensures ∙ sym (none-there (expressionValue (g .header) (g .rank) (g .registers) (g .bytes .now)) (g .at) (atEvaluate .evaluate .ensures)
+    _ _ (atEnumTold .enum-told .given .1))
 
 returns-2 : tie.Need-returns-2
 returns-2 c =
-    let g = c .before .before .before .before .before .args in
-    sym (one-there (expressionValue (g .header) (g .rank) (g .registers) (g .bytes .now)) (g .at) (c .before .before .before .evaluate .ensures) _ _
-    (c .before .first .given .1))
+    let atFirst = c .before in
+    let atEvaluate = atFirst .before .before in
+    let start = atEvaluate .before .before in
+    let g = start .args in
+    sym (one-there (expressionValue (g .header) (g .rank) (g .registers) (g .bytes .now)) (g .at) (atEvaluate .evaluate .ensures) _ _ (atFirst .first
+    .given .1))
 
 pub one-spec : {M : Type 1} → statement M
 one-spec =

@@ -20,9 +20,12 @@ none-requires c κs = search needs
 
 returns : tie.Need-returns
 returns c =
-    let g = c .before .before .before .before .before .args in
-    c .none .ensures ∙ sym (none-there (expressionValue (g .header) (g .rank) (g .registers) (g .bytes .now)) (g .at) (c .before .before .before
-    .evaluate .ensures) _ _ (c .before .enum-told .given .1))
+    let atEnumTold = c .before in
+    let atEvaluate = atEnumTold .before .before in
+    let start = atEvaluate .before .before in
+    let g = start .args in
+    c .none .ensures ∙ sym (none-there (expressionValue (g .header) (g .rank) (g .registers) (g .bytes .now)) (g .at) (atEvaluate .evaluate .ensures)
+    _ _ (atEnumTold .enum-told .given .1))
 
 evaluate-requires-2 : tie.Need-evaluate-requires-2
 evaluate-requires-2 c κs = search needs
@@ -38,19 +41,29 @@ none-requires-2 c κs = search needs
 
 returns-2 : tie.Need-returns-2
 returns-2 c =
-    let g = c .before .before .before .before .before .before .before .before .before .args in
-    c .none2 .ensures ∙ sym (one-there (expressionValue (g .header) (g .rank) (g .registers) (g .bytes .now)) (g .at) (c .before .before .before
-    .before .before .before .before .evaluate .ensures) _ _ (c .before .before .before .before .before .first .given .1)
-    ∙ none-there (expressionValue (g .header) (g .rank) (g .registers) (g .bytes .now)) (c .before .before .before .before .before .first .given .0
-    .1 .0) (c .before .before .before .evaluate2 .ensures) _ _ (c .before .enum-told2 .given .1))
+    let atEnumTold2 = c .before in
+    let atEvaluate2 = atEnumTold2 .before .before in
+    let atFirst = atEvaluate2 .before .before in
+    let atEvaluate = atFirst .before .before in
+    let start = atEvaluate .before .before in
+    let g = start .args in
+    c .none2 .ensures ∙ sym (one-there (expressionValue (g .header) (g .rank) (g .registers) (g .bytes .now)) (g .at) (atEvaluate .evaluate .ensures)
+    _ _ (atFirst .first .given .1)
+    ∙ none-there (expressionValue (g .header) (g .rank) (g .registers) (g .bytes .now)) (atFirst .first .given .0 .1 .0) (atEvaluate2 .evaluate2
+    .ensures) _ _ (atEnumTold2 .enum-told2 .given .1))
 
 returns-3 : tie.Need-returns-3
 returns-3 c =
-    let g = c .before .before .before .before .before .before .before .before .before .args in
-    sym (one-there (expressionValue (g .header) (g .rank) (g .registers) (g .bytes .now)) (g .at) (c .before .before .before .before .before .before
-    .before .evaluate .ensures) _ _ (c .before .before .before .before .before .first .given .1)
-    ∙ one-there (expressionValue (g .header) (g .rank) (g .registers) (g .bytes .now)) (c .before .before .before .before .before .first .given .0 .1
-    .0) (c .before .before .before .evaluate2 .ensures) _ _ (c .before .second .given .1))
+    let atSecond = c .before in
+    let atEvaluate2 = atSecond .before .before in
+    let atFirst = atEvaluate2 .before .before in
+    let atEvaluate = atFirst .before .before in
+    let start = atEvaluate .before .before in
+    let g = start .args in
+    sym (one-there (expressionValue (g .header) (g .rank) (g .registers) (g .bytes .now)) (g .at) (atEvaluate .evaluate .ensures) _ _ (atFirst .first
+    .given .1)
+    ∙ one-there (expressionValue (g .header) (g .rank) (g .registers) (g .bytes .now)) (atFirst .first .given .0 .1 .0) (atEvaluate2 .evaluate2
+    .ensures) _ _ (atSecond .second .given .1))
 
 pub two-spec : {M : Type 1} → statement M
 two-spec =

@@ -59,16 +59,16 @@ returns-6 c = rw (c .before .match .keys6) (c .four2 .ensures)
 returns-7 : tie.Need-returns-7
 unfolding valuesAt
 returns-7 c =
+    let atMatch = c .before in
+    let start = atMatch .before .before in
     rw (
-      ne-eqb (c .before .before .before .args .kind) 1 (c .before .match .rest .0 .0 .0 .0 .0 .1),
-      ne-eqb (c .before .before .before .args .kind) 2
-          (c .before .match .rest .0 .0 .0 .0 .1),
-      ne-eqb (c .before .before .before .args .kind) 3 (c .before .match .rest .0 .0 .0 .1),
-      ne-eqb (c
-          .before .before .before .args .kind) 4 (c .before .match .rest .0 .0 .1),
-      ne-eqb (c .before .before .before .args .kind) 5 (c .before .match
-          .rest .0 .1),
-      ne-eqb (c .before .before .before .args .kind) 6 (c .before .match .rest .1),
+      ne-eqb (start .args .kind) 1 (atMatch .match .rest .0 .0 .0 .0 .0 .1),
+      ne-eqb (start .args .kind) 2 (atMatch .match .rest .0 .0 .0 .0 .1),
+      ne-eqb (start .args .kind) 3 (atMatch .match .rest .0 .0 .0 .1),
+      ne-eqb (start .args .kind) 4 (atMatch .match .rest .0 .0 .1),
+      ne-eqb (start
+          .args .kind) 5 (atMatch .match .rest .0 .1),
+      ne-eqb (start .args .kind) 6 (atMatch .match .rest .1),
     )
     (c .none .ensures)
 

@@ -21,7 +21,8 @@ copied-cells-requires c κs = search needs
 
 take-items-requires : tie.Need-take-items-requires
 take-items-requires c κs =
-    let atCopy = c .before .before .before .before .before .before .before in
+    let atBefore = c .before .before .before .before .before .before in
+    let atCopy = atBefore .before in
     let start = atCopy .before .before .before .before in (
       start .pre .0,
       (
@@ -52,37 +53,46 @@ returns c p i =
 
 returns-2 : tie.Need-returns-2
 returns-2 c p i =
-    let atTaken = c .before .before .before .before in
+    let atRan = c .before .before in
+    let atBefore = atRan .before in
+    let atTaken = atBefore .before in
     let atCopy = atTaken .before .before .before .before .before .before .before .before in
     let start = atCopy .before .before .before .before in
     let begun = begun-at (startIn (start .args .cells .now)) _ (atCopy .copied-cells .ensures) in
-    items-open p i begun _ _ _ _ (atTaken .take-items .ensures p i begun) _ (c .before .before .ran .given .1) (c .if1 .taken)
+    items-open p i begun _ _ _ _ (atTaken .take-items .ensures p i begun) _ (atRan .ran .given .1) (c .if1 .taken)
 
 all-quiet-requires : tie.Need-all-quiet-requires
 all-quiet-requires c κs =
-    let fits = c .before .before .before .before .before .before .before .before .before .before .before .before .before .before .before .before
-    .before .pre .0 .fits in
+    let start = c .before .before .before .before .before .before .before .before .before .before .before .before .before .before .before .before
+    .before in
+    let fits = start .pre .0 .fits in
     (fits .ranksFit, fits .queuesFit)
 
 returns-3 : tie.Need-returns-3
 returns-3 c p i =
-    let atTaken = c .before .before .before .before .before .before .before in
+    let atAllQuiet = c .before in
+    let atIf1 = atAllQuiet .before .before in
+    let atRan = atIf1 .before .before in
+    let atBefore = atRan .before in
+    let atTaken = atBefore .before in
     let atCopy = atTaken .before .before .before .before .before .before .before .before in
     let start = atCopy .before .before .before .before in
     let begun = begun-at (startIn (start .args .cells .now)) _ (atCopy .copied-cells .ensures) in
-    items-left p i begun _ _ _ _ (atTaken .take-items .ensures p i begun) _ (c .before .before .before .before .before .ran .given .1) (c .before
-    .before .before .if1 .left)
-    (sym (c .before .all-quiet .ensures) ∙ not-true _ (c .if2 .taken))
+    items-left p i begun _ _ _ _ (atTaken .take-items .ensures p i begun) _ (atRan .ran .given .1) (atIf1 .if1 .left)
+    (sym (atAllQuiet .all-quiet .ensures) ∙ not-true _ (c .if2 .taken))
 
 returns-4 : tie.Need-returns-4
 returns-4 c p i =
-    let atTaken = c .before .before .before .before .before .before .before in
+    let atAllQuiet = c .before in
+    let atIf1 = atAllQuiet .before .before in
+    let atRan = atIf1 .before .before in
+    let atBefore = atRan .before in
+    let atTaken = atBefore .before in
     let atCopy = atTaken .before .before .before .before .before .before .before .before in
     let start = atCopy .before .before .before .before in
     let begun = begun-at (startIn (start .args .cells .now)) _ (atCopy .copied-cells .ensures) in
-    items-accepted p i begun _ _ _ _ (atTaken .take-items .ensures p i begun) _ (c .before .before .before .before .before .ran .given .1) (c .before
-    .before .before .if1 .left)
-    (sym (c .before .all-quiet .ensures) ∙ not-false _ (c .if2 .left))
+    items-accepted p i begun _ _ _ _ (atTaken .take-items .ensures p i begun) _ (atRan .ran .given .1) (atIf1 .if1 .left)
+    (sym (atAllQuiet .all-quiet .ensures) ∙ not-false _ (c .if2 .left))
 
 pub replay-items-spec : {M : Type 1} → statement M
 replay-items-spec =

@@ -18,7 +18,8 @@ enum-known-count c = search needs
 
 replay-items-requires : tie.Need-replay-items-requires
 replay-items-requires c κs =
-    let atCount = c .before .before .before .before .before .before in
+    let atBefore = c .before .before .before .before .before in
+    let atCount = atBefore .before in
     let atRead = atCount .before .before in
     let (items, read, l) = readable-items _ _ (sym (atCount .count .given .1) ∙ atRead .read-record .ensures) in
     (atRead .before .before .before .pre, items-of (record-items _ _ read) l)
@@ -28,7 +29,8 @@ enum-known-refusal c = search needs
 
 returns : tie.Need-returns
 returns c p =
-    let atCount = c .before .before .before .before .before .before .before in
+    let atBefore = c .before .before .before .before .before .before in
+    let atCount = atBefore .before in
     let atRead = atCount .before .before in
     let (items, read, l) = readable-items _ _ (sym (atCount .count .given .1) ∙ atRead .read-record .ensures) in
     rw (record-read p _ _ read) (c .replay-items .ensures p (items-of (record-items _ _ read) l))
