@@ -55,8 +55,7 @@ returns c p i begun =
 
 take-item-requires : tie.Need-take-item-requires Inv-loop μ-loop
 take-item-requires c κs =
-    let atBefore = c .before .before .before .before .before in
-    let atRead = atBefore .before in
+    let atRead = c .before .before .before .before .before .before in
     let atItem = atRead .before .before in
     let atLoop = atItem .before .before in
     let pre = atLoop .before .before .before .pre in
@@ -97,11 +96,11 @@ returns-2 c p i begun =
 -- The index of an item that was taken.
 small : tie.Need-element-write-groups Inv-loop μ-loop
 small c =
-    let atBefore = c .before .before .before .before .before .before .before .before .before .before .before .before .before in
-    let atLoop = atBefore .before in
+    let atTest = c .before .before .before .before .before .before .before .before .before .before .before .before .before in
+    let atLoop = atTest .before in
     omega (
       arith,
-      atBefore .loop-test .taken,
+      atTest .loop-test .taken,
       atLoop .before .before .before .pre .1 .0 .few,
     )
 

@@ -18,8 +18,7 @@ enum-known-answer c = search needs
 
 replay-record-requires : tie.Need-replay-record-requires
 replay-record-requires c κs =
-    let atBefore = c .before .before .before .before .before .before in
-    let atAnswer = atBefore .before in
+    let atAnswer = c .before .before .before .before .before .before .before in
     let atRead = atAnswer .before .before .before in
     let (P, read, placed) = readable _ (sym (atRead .read-program .ensures .0) ∙ atAnswer .answer .given .1) in
     program-of {P = P} (rw (atRead .read-program .ensures .1) placed)
@@ -29,8 +28,7 @@ enum-known-answer-2 c = search needs
 
 returns : tie.Need-returns
 returns c =
-    let atBefore = c .before .before .before .before .before .before .before in
-    let atAnswer = atBefore .before in
+    let atAnswer = c .before .before .before .before .before .before .before .before in
     let atRead = atAnswer .before .before .before in
     let (P, read, placed) = readable _ (sym (atRead .read-program .ensures .0) ∙ atAnswer .answer .given .1) in
     rw (program-read _ _ _ read) (c .replay-record .ensures (program-of {P = P} (rw (atRead .read-program .ensures .1) placed)))

@@ -21,8 +21,7 @@ copied-cells-requires c κs = search needs
 
 take-items-requires : tie.Need-take-items-requires
 take-items-requires c κs =
-    let atBefore = c .before .before .before .before .before .before in
-    let atCopy = atBefore .before in
+    let atCopy = c .before .before .before .before .before .before .before in
     let start = atCopy .before .before .before .before in (
       start .pre .0,
       (
@@ -54,8 +53,7 @@ returns c p i =
 returns-2 : tie.Need-returns-2
 returns-2 c p i =
     let atRan = c .before .before in
-    let atBefore = atRan .before in
-    let atTaken = atBefore .before in
+    let atTaken = atRan .before .before in
     let atCopy = atTaken .before .before .before .before .before .before .before .before in
     let start = atCopy .before .before .before .before in
     let begun = begun-at (startIn (start .args .cells .now)) _ (atCopy .copied-cells .ensures) in
@@ -73,8 +71,7 @@ returns-3 c p i =
     let atAllQuiet = c .before in
     let atIf1 = atAllQuiet .before .before in
     let atRan = atIf1 .before .before in
-    let atBefore = atRan .before in
-    let atTaken = atBefore .before in
+    let atTaken = atRan .before .before in
     let atCopy = atTaken .before .before .before .before .before .before .before .before in
     let start = atCopy .before .before .before .before in
     let begun = begun-at (startIn (start .args .cells .now)) _ (atCopy .copied-cells .ensures) in
@@ -86,8 +83,7 @@ returns-4 c p i =
     let atAllQuiet = c .before in
     let atIf1 = atAllQuiet .before .before in
     let atRan = atIf1 .before .before in
-    let atBefore = atRan .before in
-    let atTaken = atBefore .before in
+    let atTaken = atRan .before .before in
     let atCopy = atTaken .before .before .before .before .before .before .before .before in
     let start = atCopy .before .before .before .before in
     let begun = begun-at (startIn (start .args .cells .now)) _ (atCopy .copied-cells .ensures) in

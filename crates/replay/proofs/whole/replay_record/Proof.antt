@@ -18,8 +18,7 @@ enum-known-count c = search needs
 
 replay-items-requires : tie.Need-replay-items-requires
 replay-items-requires c κs =
-    let atBefore = c .before .before .before .before .before in
-    let atCount = atBefore .before in
+    let atCount = c .before .before .before .before .before .before in
     let atRead = atCount .before .before in
     let (items, read, l) = readable-items _ _ (sym (atCount .count .given .1) ∙ atRead .read-record .ensures) in
     (atRead .before .before .before .pre, items-of (record-items _ _ read) l)
@@ -29,8 +28,7 @@ enum-known-refusal c = search needs
 
 returns : tie.Need-returns
 returns c p =
-    let atBefore = c .before .before .before .before .before .before in
-    let atCount = atBefore .before in
+    let atCount = c .before .before .before .before .before .before .before in
     let atRead = atCount .before .before in
     let (items, read, l) = readable-items _ _ (sym (atCount .count .given .1) ∙ atRead .read-record .ensures) in
     rw (record-read p _ _ read) (c .replay-items .ensures p (items-of (record-items _ _ read) l))
