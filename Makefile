@@ -1,4 +1,4 @@
-# `make test` is every test and then every proof; `make sample` lists the sample run.
+# `make test` is every test and every proof; `make sample` lists the sample run; `make bench` times the replay.
 
 VECTORS := tests/vectors
 HARNESS := target/second/release/harness
@@ -6,11 +6,15 @@ DEFINITIONS := target/definitions
 SEED ?= 1
 COUNT ?= 1000000
 
-.PHONY: test sample soak second harness definitions edits
+SHELL := bash
 
-# The tests, then rt's own gate, whose last line is the last line printed.
+.PHONY: test sample soak bench second harness definitions edits linked agree
+
+# The tests, then rt's own gate, from nothing; then the code that it proved, compiled and held to the second program. The gate's last line is the
+# last line printed.
 test: second harness definitions edits
-	@rt ci
+	@set -o pipefail; log=$$(mktemp); trap 'rm -f $$log' EXIT; \
+	rt ci | tee $$log && $(MAKE) --no-print-directory agree COUNT=20000 && tail -n 1 $$log
 
 # The second program's own tests.
 second:
@@ -33,6 +37,19 @@ definitions:
 # Edits of the definitions that the theorems must refuse.
 edits:
 	tests/edits/run
+
+# The proved replay as a static library, and the programs that link it.
+linked:
+	rt staticlib replay_entry
+	cd tests/linked && cargo build --release --quiet
+
+# The compiled replay against the second program, on the corpus and on generated inputs.
+agree: linked
+	target/second/release/agree $(VECTORS) $(SEED) $(COUNT)
+
+# The compiled replay's time for each item, beside the second program's.
+bench: linked
+	target/second/release/bench
 
 # More generated inputs: make soak SEED=7 COUNT=1000000
 soak:

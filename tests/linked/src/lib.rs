@@ -1,0 +1,82 @@
+//! The one place where the proved replay's entry is called, and the one place with `unsafe`.
+
+use second::limits::{refuse, Outcome};
+
+/// What the entry returns for an accepted record.
+const ACCEPTED: u8 = 0;
+
+/// What the cells of all ranks hold.
+pub type Cells = [[u16; 64]; 8];
+
+/// The arrays that the entry is lent.
+#[derive(Debug, Clone, PartialEq, Eq)]
+pub struct Lent {
+    /// The control state of each rank.
+    pub control: [u8; 8],
+    /// The registers of each rank.
+    pub registers: [[u16; 16]; 8],
+    /// The cells of each rank: the start, and after an accepted record the last contents.
+    pub cells: Cells,
+    /// The group of each item.
+    pub groups: [u16; 1024],
+    /// The access of each item.
+    pub accesses: [u16; 1024],
+}
+
+/// How many items an accepted record has, and how many groups they form.
+#[derive(Debug, Clone, Copy, PartialEq, Eq)]
+pub struct Counts {
+    /// The items.
+    pub items: usize,
+    /// The groups.
+    pub groups: u16,
+}
+
+extern "C" {
+    /// `lellmusu_replay` of `crates/replay_entry`; a slice is a pointer and a length there.
+    fn lellmusu_replay(
+        program: *const u8,
+        program_length: usize,
+        recorded: *const u8,
+        recorded_length: usize,
+        control: *mut [u8; 8],
+        registers: *mut [[u16; 16]; 8],
+        cells: *mut Cells,
+        groups: *mut [u16; 1024],
+        accesses: *mut [u16; 1024],
+        place: *mut usize,
+        items: *mut usize,
+        opened: *mut u16,
+    ) -> u8;
+}
+
+/// Replays a record on a program, from the start that the lent cells hold.
+pub fn replay(program: &[u8], record: &[u8], lent: &mut Lent) -> Outcome<Counts> {
+    let mut place = 0;
+    let mut counts = Counts {
+        items: 0,
+        groups: 0,
+    };
+    // Each pointer comes from a reference of its own, and each length is that of its slice.
+    let number = unsafe {
+        lellmusu_replay(
+            program.as_ptr(),
+            program.len(),
+            record.as_ptr(),
+            record.len(),
+            &mut lent.control,
+            &mut lent.registers,
+            &mut lent.cells,
+            &mut lent.groups,
+            &mut lent.accesses,
+            &mut place,
+            &mut counts.items,
+            &mut counts.groups,
+        )
+    };
+    if number == ACCEPTED {
+        Ok(counts)
+    } else {
+        refuse(number, place)
+    }
+}
