@@ -4,6 +4,7 @@ use mathlib.Core.Path.{_≡_, refl, ap, sym, _∙_}
 use mathlib.Core.Bool.{Bool, true, false, _&&_}
 use mathlib.Core.List.{List}
 use native.Mathlib.Omega.{arith}
+use native.Mathlib.Nat.{le-of-lt}
 use Rattle.model.specs.declared.Address.{Address}
 use Rattle.model.specs.declared.Item.{Item}
 use Rattle.model.specs.Limits.{maxItems, maxQueues, maxCells, maxRegisters}
@@ -12,11 +13,12 @@ use Rattle.model.specs.Machine as Machine
 use Rattle.model.specs.Machine.{State, address, readOf, writeOf, loads, stores, assigns, passes, issues, meets}
 use Rattle.model.specs.Replay.{Origin, sameAddress, agrees, agreesWith, accessOf, perform}
 use Rattle.replay.specs.declared.actions.Action as Action
+use Rattle.replay.specs.declared.actions.Action.{Action}
 use Rattle.replay.specs.declared.actions.Acted as Acted
 use Rattle.replay.specs.Tables.{Table, Rank, entry, stored}
 use Rattle.replay.specs.Queues.{slotOf, issuedAt, requestStored}
-use Rattle.replay.specs.Steps.{addressNumber}
-use Rattle.replay.specs.Actions.{Part, PartTied, DoneAs, answered}
+use Rattle.replay.specs.Steps.{Ordered, addressNumber}
+use Rattle.replay.specs.Actions.{Part, PartTied, ActionFits, DoneAs, Performed, answered}
 use Rattle.replay.proofs.Tied.{tied-later, tied-register, tied-cell, tied-issued}
 
 module _ {most : ℕ} (control : List ℕ) (p : Part) (i : Item) (s : State Origin) (origin : Origin) (held : PartTied most control p s) (r : Rank (i
@@ -68,31 +70,6 @@ module _ {most : ℕ} (control : List ℕ) (p : Part) (i : Item) (s : State Orig
       i origin (assigns x value) s (Acted.the-variants.Done 0)
   unfolding perform accessOf agreesWith
   assign-done x value l rs = (refl, rw rs (tied-later (tied-register held (i .rank) r x value l) (most + 1) (omega arith)), refl)
-
-  -- An assumption that passed, and a barrier, change nothing here.
-  pub pass-done : DoneAs most control p p i origin passes s (Acted.the-variants.Done 0)
-  unfolding perform accessOf agreesWith
-  pass-done = (refl, tied-later held (most + 1) (omega arith), refl)
-
-  pub meet-done : DoneAs most control p p i origin meets s (Acted.the-variants.Done 0)
-  unfolding perform accessOf agreesWith
-  meet-done = (refl, tied-later held (most + 1) (omega arith), refl)
-
-  -- A transfer is issued.
-  pub issue-done : (queue : ℕ) (source destination : Address) {group : ℕ} → origin .group ≡ group → queue < maxQueues → most ≤ maxItems →
-      entry (p .counters) (i .rank) (issuedAt queue) < maxItems → {entries counters : Table} →
-      entries ≡ requestStored (p .entries) (i .rank) (slotOf queue (entry (p .counters) (i .rank) (issuedAt queue))) source destination group →
-      counters ≡ stored (p .counters) (i .rank) (issuedAt queue) (entry (p .counters) (i .rank) (issuedAt queue) + 1) →
-      DoneAs most control p
-      (record { registers = p .registers; cells = p .cells; entries = entries; counters = counters })
-      i origin (issues queue source destination) s (Acted.the-variants.Done 0)
-  unfolding perform accessOf agreesWith
-  issue-done queue source destination {group} g q few room es cs = (
-    refl,
-    rw (es, cs, ← g)
-        (tied-issued held (i .rank) r queue q few (record { source = source; destination = destination; mark = origin }) room),
-    refl,
-  )
 
 -- The code's action tells the definition's.
 pub tells-load : (a : Machine.Action) {x c : ℕ} → Action.the-variants.Loads x c ≡ answered (ok a) → a ≡ loads x c
@@ -151,3 +128,58 @@ tells-nothing (assigns x v) e = cc
 tells-nothing passes e = cc
 tells-nothing (issues q source destination) e = cc
 tells-nothing meets e = cc
+
+-- An assumption that passed, and a barrier, leave every array as it was.
+abbrev Unchanged : (most : ℕ) → (registers cells entries counters : Table) → Item → (group : ℕ) → Machine.Action → Type 0
+Unchanged most registers cells entries counters i group a =
+    Performed most
+    (record { registers = registers; cells = cells; entries = entries; counters = counters })
+    (record { registers = registers; cells = cells; entries = entries; counters = counters })
+    i group a (Acted.the-variants.Done 0)
+
+module _ {most group : ℕ} {registers cells entries counters : Table} (i : Item) {action : Action} where
+  pub pass-done : action ≡ Action.the-variants.Passes → (a : Machine.Action) → action ≡ answered (ok a) →
+      Unchanged most registers cells entries counters i group a
+  unfolding perform accessOf agreesWith
+  pass-done p a e control s origin held o =
+      let w = tells-pass a (sym p ∙ e) in rw w (refl, tied-later held (most + 1) (omega arith), refl)
+
+  pub meet-done : action ≡ Action.the-variants.Meets → (a : Machine.Action) → action ≡ answered (ok a) →
+      Unchanged most registers cells entries counters i group a
+  unfolding perform accessOf agreesWith
+  meet-done m a e control s origin held o =
+      let w = tells-meet a (sym m ∙ e) in rw w (refl, tied-later held (most + 1) (omega arith), refl)
+
+-- A transfer is issued: its queue is one that the arrays have, with room for an entry, and the request goes to its end.
+pub issue-queue : {action : Action} {queue : ℕ} {source destination : Address} →
+    action ≡ Action.the-variants.Issues queue source destination → ActionFits action → queue < maxQueues
+issue-queue is fits = let fits′ = rw is at fits in fits′
+
+pub issue-room : (most rank queue : ℕ) (counters : Table) → most < maxItems → Ordered most counters → Rank rank → queue < maxQueues →
+    entry counters rank (issuedAt queue) < maxItems
+issue-room most rank queue counters few ordered r q = omega (arith, few, ordered rank queue r q .2)
+
+module _ {most queue group : ℕ} {source destination : Address} {registers cells entries counters entries′ counters′ : Table} {action : Action} (i :
+    Item)
+    (is : action ≡ Action.the-variants.Issues queue source destination) (fits : ActionFits action) (few : most < maxItems) (ordered : Ordered most
+    counters)
+    (r : Rank (i .rank)) where
+  pub issue-done :
+      entries′ ≡ requestStored entries (i .rank) (slotOf queue (entry counters (i .rank) (issuedAt queue))) source destination group →
+      counters′ ≡ stored counters (i .rank) (issuedAt queue) (entry counters (i .rank) (issuedAt queue) + 1) →
+      (a : Machine.Action) → action ≡ answered (ok a) →
+      Performed most
+      (record { registers = registers; cells = cells; entries = entries; counters = counters })
+      (record { registers = registers; cells = cells; entries = entries′; counters = counters′ })
+      i group a (Acted.the-variants.Done 0)
+  unfolding perform accessOf agreesWith
+  issue-done es cs a e control s origin held g =
+      let q = issue-queue is fits in
+      let room = issue-room most (i .rank) queue counters few ordered r q in
+      let w = tells-issue a (sym is ∙ e) in
+      rw w (
+        refl,
+        rw (es, cs, ← g)
+            (tied-issued held (i .rank) r queue q (le-of-lt few) (record { source = source; destination = destination; mark = origin }) room),
+        refl,
+      )

@@ -1,9 +1,8 @@
 -- `replay::actions::act` meets its contract: each kind of action by its law.
 use mathlib.Core.Path.{_∙_, sym}
 use native.Mathlib.Omega.{arith}
-use native.Mathlib.Nat.{le-of-lt}
 use borrow.Author.Needs.{needs}
-use Rattle.replay.proofs.ActionSteps.{tells-load, tells-store, tells-assign, tells-pass, tells-issue, tells-meet, tells-nothing, assign-done, pass-done, meet-done, issue-done}
+use Rattle.replay.proofs.ActionSteps.{tells-load, tells-store, tells-assign, tells-nothing, assign-done, pass-done, meet-done, issue-queue, issue-room, issue-done}
 use Rattle.replay.proofs.actions.act.Statement.{statement}
 use Rattle.replay.proofs.actions.act.Tie as tie
 
@@ -41,11 +40,7 @@ enum-known-action-4 : tie.Need-enum-known-action-4
 enum-known-action-4 c = search needs
 
 issue-requires : tie.Need-issue-requires
-issue-requires c κs =
-    let g = c .before .before .before .before .before .args in
-    let p = c .before .before .before .before .before .pre in
-    let f = rw (c .before .before .before .action4 .given .1) at (p .1 .0) in
-    (p .0, (f, omega (arith, p .1 .1 .0, p .1 .1 .1 (g .item .rank) _ (p .0) f .2)))
+issue-requires c κs = search (issue-queue, issue-room)
 
 enum-told-2 : tie.Need-enum-told-2
 enum-told-2 c = search needs
@@ -84,35 +79,13 @@ returns-3 c =
     }) (g .item) s origin held (p .0) _ _ f (c .set-register .ensures))
 
 returns-4 : tie.Need-returns-4
-returns-4 c =
-    let g = c .before .before .args in
-    let p = c .before .before .pre in
-    λ a e control s origin held o.
-    let w = tells-pass a (sym (c .enum-told .given .1) ∙ e) in
-    rw w (pass-done control (record { registers = g .registers .now; cells = g .cells .now; entries = g .entries .now; counters = g .counters .now })
-    (g .item) s origin held (p .0))
+returns-4 c = pass-done _ (search)
 
 returns-5 : tie.Need-returns-5
-returns-5 c =
-    let g = c .before .before .before .before .before .before .args in
-    let p = c .before .before .before .before .before .before .pre in
-    let f = rw (c .before .before .before .before .action4 .given .1) at (p .1 .0) in
-    λ a e control s origin held o.
-    let w = tells-issue a (sym (c .before .before .before .before .action4 .given .1) ∙ e) in
-    rw w
-    (issue-done control (record { registers = g .registers .now; cells = g .cells .now; entries = g .entries .now; counters = g .counters .now }) (g
-    .item) s origin held (p .0) _ _ _ o f (le-of-lt (p .1 .1 .0))
-    (omega (arith, p .1 .1 .0, p .1 .1 .1 (g .item .rank) _ (p .0) f .2))
-    (c .issue .ensures .0) (c .issue .ensures .1))
+returns-5 c = issue-done _ (search) (search) (search) (search) (search) (c .issue .ensures .0) (c .issue .ensures .1)
 
 returns-6 : tie.Need-returns-6
-returns-6 c =
-    let g = c .before .before .args in
-    let p = c .before .before .pre in
-    λ a e control s origin held o.
-    let w = tells-meet a (sym (c .enum-told2 .given .1) ∙ e) in
-    rw w (meet-done control (record { registers = g .registers .now; cells = g .cells .now; entries = g .entries .now; counters = g .counters .now })
-    (g .item) s origin held (p .0))
+returns-6 c = meet-done _ (search)
 
 returns-7 : tie.Need-returns-7
 returns-7 c =
