@@ -39,9 +39,3 @@ module _ (a : Address) {rank cell r c w : ℕ} (own : w ≡ a .rank) (p : r ≡ 
 
   pub ranks-differ : (w ≡ r → ⊥) → eqb w r ≡ sameAddress a (address rank cell)
   ranks-differ n = rw (ne-eqb w r n, ne-eqb (a .rank) rank (λ e. n (own ∙ e ∙ sym p)))
-
-pub and-holds : (x y : Bool) (z : Bool) → x ≡ true → z ≡ y → z ≡ (x && y)
-and-holds x y z h e = rw h e
-
-pub and-stops : (x y : Bool) → x ≡ false → false ≡ (x && y)
-and-stops x y h = rw h

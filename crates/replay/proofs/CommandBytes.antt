@@ -18,20 +18,10 @@ use Rattle.model.specs.Replay.{kindNumber}
 use Rattle.model.proofs.Laws.{decided, refused≢ok, ok-injective}
 use Rattle.program.specs.Values.{registerOf}
 use Rattle.program.proofs.Layouts.{Laid, Layout, layout}
-use Rattle.replay.specs.declared.operands.Command.{Command}
-use Rattle.replay.specs.declared.transitions.Values.{Values}
+use Rattle.transitions.specs.declared.Command.{Command}
 use Rattle.replay.specs.Commands.{HeaderFits, kindAction, actionBy, valuesOf}
-use Rattle.replay.specs.Transitions.{valuesAt, kindAt, registerAt, commandAt}
+use Rattle.transitions.specs.Transitions.{valuesAt, kindAt, registerAt, commandAt}
 use Rattle.replay.proofs.OperandTests.{action-by}
-
--- The struct that the code makes is the definition's.
-pub command-is : (header : Header) (rank : ℕ) (registers bytes : List ℕ) (at : ℕ) {n source target x : ℕ} {kind : Kind} {v : Values} →
-    n ≡ getD bytes (at + 1) 0 → kind ≡ kindAt n → source ≡ getD bytes (at + 2) 0 → target ≡ getD bytes (at + 3) 0 → x ≡ registerAt bytes (at + 4) →
-    v ≡ valuesAt header rank registers bytes n (at + 4) →
-    _≡_ {A = Command}
-    (record { kind = kind; source = source; target = target; register = x; e1 = v .e1; e2 = v .e2; e3 = v .e3; e4 = v .e4 })
-    (commandAt header rank registers bytes at)
-command-is header rank registers bytes at en ek es et ex ev = rw (ek, ev, en, es, et, ex)
 
 -- A byte that was found stands there.
 byte-value : (bytes : List ℕ) (at : ℕ) {v n : ℕ} → byte programLength bytes at ≡ found v n → (at < length bytes) × (getD bytes at 0 ≡ v)
@@ -88,9 +78,6 @@ module _ (P : Program) (rank : ℕ) (registers bytes : List ℕ) (at : ℕ) {t :
   laid : Layout (P .header) bytes at t end
   laid = layout (P .header) bytes at h
 
-  pub start-inside : at < length bytes
-  start-inside = let (l, _) = byte-value bytes (at + 1) (laid .kind) in omega arith
-
   pub command-valued : Valued P rank registers t (commandAt (P .header) rank registers bytes at)
   command-valued =
       let (_, k) = byte-value bytes (at + 1) (laid .kind) in
@@ -105,11 +92,11 @@ module _ (P : Program) (rank : ℕ) (registers bytes : List ℕ) (at : ℕ) {t :
             .command)));
       }
 
--- The same of a struct that is the definition's wherever the start is inside the bytes.
+-- The same of a struct that is the definition's.
 pub command-known : (P : Program) (rank : ℕ) (registers bytes : List ℕ) (at : ℕ) {t : Transition} {end : ℕ} {header : Header} {c : Command} →
     P .header ≡ header → header .registers ≤ maxRegisters → readTransition header bytes at ≡ found t end →
-    (at < length bytes → c ≡ commandAt header rank registers bytes at) → Valued P rank registers t c
+    c ≡ commandAt header rank registers bytes at → Valued P rank registers t c
 command-known P rank registers bytes at {t} {end} e few h k =
     let h′ : readTransition (P .header) bytes at ≡ found t end = rw e h in
     let few′ : P .header .registers ≤ maxRegisters = rw e few in
-    rw (k (start-inside P rank registers bytes at few′ h′), ← e) (command-valued P rank registers bytes at few′ h′)
+    rw (k, ← e) (command-valued P rank registers bytes at few′ h′)

@@ -10,8 +10,6 @@ pub mod PopAgree
 pub mod ActionSteps
 pub mod CommandSteps
 pub mod OperandTests
-pub mod ValueReads
-pub mod RegisterTests
 pub mod CommandBytes
 pub mod TransitionSteps
 pub mod ItemSteps

@@ -15,7 +15,7 @@ use Rattle.model.proofs.Laws.{decided}
 use Rattle.replay.specs.Actions.{answered}
 use Rattle.model.specs.declared.Kind.the-variants.{Load, Store, Assign, Assume, Read, Write, Popa, Popb, Bar}
 use Rattle.replay.specs.declared.actions.Action as Action
-use Rattle.replay.specs.declared.operands.Command.{Command}
+use Rattle.transitions.specs.declared.Command.{Command}
 use Rattle.replay.specs.Commands.{loadAction, storeAction, assumeAction, transferred, readAction, writeAction, transferBy, kindAction, actionBy, valuesOf}
 
 module _ (h : Header) (rank at v1 v2 v3 v4 : ℕ) where

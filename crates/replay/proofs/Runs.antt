@@ -8,7 +8,7 @@ use lib.ListN.{length, set, length-map, length-append}
 use Rattle.model.specs.declared.Header.{Header}
 use Rattle.model.specs.declared.Item.{Item}
 use Rattle.model.specs.declared.Refusal.{Refusal}
-use Rattle.model.specs.Limits.{maxRanks, maxItems}
+use Rattle.model.specs.Limits.{maxItems}
 use Rattle.model.specs.Refusals.{Result, ok, refused, _>>=_}
 use Rattle.model.specs.Programs.{Program}
 use Rattle.model.specs.Bytes.{Found, found}
@@ -109,7 +109,6 @@ pub record Reached
   pub sameOpened : state .opened ≡ opened
   pub sameRow : state .row ≡ row
   pub openedFew : opened ≤ at
-  pub rowFew : row ≤ maxRanks
   pub groupsTold : groups ≡ fill (groupsOf done) groups₀
   pub accessesTold : accesses ≡ fill (accessesOf done) accesses₀
 
@@ -133,7 +132,6 @@ module _ {program starts : List ℕ} {header : Header} {recorded : List ℕ} {co
         sameOpened = refl;
         sameRow = refl;
         openedFew = omega arith;
-        rowFew = omega arith;
         groupsTold = refl;
         accessesTold = refl;
       }
@@ -176,8 +174,7 @@ module _ {program starts : List ℕ} {header : Header} {recorded : List ℕ} {co
             held = follows .held;
             sameOpened = follows .sameOpened;
             sameRow = follows .sameRow;
-            openedFew = omega (arith, grown .opened, here .sameOpened, here .openedFew, follows .sameOpened);
-            rowFew = omega (arith, grown .row maxRanks (omega (arith, here .sameRow, here .rowFew)) (here-fits e .rankFits .last), follows .sameRow);
+            openedFew = omega (arith, grown, here .sameOpened, here .openedFew, follows .sameOpened);
             groupsTold = told-more (λ (e : Event). e .group) (here .done) (t .event) groups₀ groups at group (here .groupsTold) (here .told) g
                 (follows .sameGroup);
             accessesTold =

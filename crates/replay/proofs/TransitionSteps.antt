@@ -14,7 +14,6 @@ use Rattle.model.specs.declared.Header.{Header}
 use Rattle.model.specs.Limits.{maxRegisters}
 use Rattle.model.specs.Bytes.{found}
 use Rattle.model.specs.Programs.{Program, Transition, kindOf, readTransition}
-use lib.ListN.{length}
 use Rattle.model.specs.Machine as Machine
 use Rattle.model.specs.Machine.{action}
 use Rattle.model.specs.Replay.{Replay, Taken, sameKind, afterAction, takeTransition}
@@ -23,7 +22,7 @@ use Rattle.replay.specs.declared.actions.Action as Action
 use Rattle.replay.specs.declared.actions.Action.{Action}
 use Rattle.replay.specs.declared.commands.Verdict as Verdict
 use Rattle.replay.specs.declared.commands.Verdict.{Verdict}
-use Rattle.replay.specs.declared.operands.Command.{Command}
+use Rattle.transitions.specs.declared.Command.{Command}
 use Rattle.replay.specs.Tables.{Rank, ofRank, rowOf}
 use Rattle.replay.specs.Steps.{Memory, Holds, Agree}
 use Rattle.replay.specs.Actions.{answered}
@@ -31,7 +30,7 @@ use Rattle.replay.specs.Commands.{actionBy}
 use Rattle.replay.specs.Verdicts.{verdictOf}
 use Rattle.replay.specs.declared.step.Step as Step
 use Rattle.replay.specs.declared.step.Step.{Step}
-use Rattle.replay.specs.Transitions.{commandAt}
+use Rattle.transitions.specs.Transitions.{commandAt}
 use Rattle.replay.proofs.CommandBytes.{Valued, command-known}
 
 -- The definition's step, test by test.
@@ -97,7 +96,7 @@ module _ {most : ℕ} (m : Memory) (P : Program) (s : Replay) (at : ℕ) (i : It
 module _ {most : ℕ} (m : Memory) (P : Program) (s : Replay) (at : ℕ) (i : Item) (t : Transition) (held : Holds most m s) (r : Rank (i .rank))
     {header : Header} (e : P .header ≡ header) (few : header .registers ≤ maxRegisters) (bytes : List ℕ) (start : ℕ) {end : ℕ}
     (read : readTransition header bytes start ≡ found t end) {own : List ℕ} (copied : own ≡ rowOf (m .registers) (i .rank)) (c : Command)
-    (known : start < length bytes → c ≡ commandAt header (i .rank) own bytes start) {state : ℕ} (now-at : state ≡ ofRank (m .control) (i .rank)) where
+    (known : c ≡ commandAt header (i .rank) own bytes start) {state : ℕ} (now-at : state ≡ ofRank (m .control) (i .rank)) where
   valued : Valued P (i .rank) (rowOf (m .registers) (i .rank)) t c
   valued = rw (← copied) (command-known P (i .rank) own bytes start e few read known)
 

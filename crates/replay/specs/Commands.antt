@@ -15,7 +15,7 @@ use Rattle.model.specs.Machine as Machine
 use Rattle.model.specs.Machine.{Transfer, address, valueOf, loads, stores, assigns, passes, issues, meets}
 use Rattle.replay.specs.declared.actions.Action as Action
 use Rattle.replay.specs.declared.actions.Action.{Action}
-use Rattle.replay.specs.declared.operands.Command.{Command}
+use Rattle.transitions.specs.declared.Command.{Command}
 use Rattle.replay.specs.declared.operands.Transferred as Transferred
 use Rattle.replay.specs.declared.operands.Transferred.{Transferred}
 

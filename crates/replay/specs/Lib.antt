@@ -5,7 +5,6 @@ pub mod Tied
 pub mod Steps
 pub mod Actions
 pub mod Commands
-pub mod Transitions
 pub mod Verdicts
 pub mod Items
 pub mod Runs

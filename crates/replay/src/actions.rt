@@ -1,12 +1,12 @@
 // What a command does once its expressions are evaluated: a load, a store, an assignment, a transfer, or nothing.
-use crate::agreement::agrees_there;
-use crate::agreement::same_address;
 use crate::memory::cell_at;
 use crate::memory::set_cell;
 use crate::memory::set_register;
 use crate::queues::issue;
 use crate::step::read_of;
 use crate::step::write_of;
+use agreement::access::agrees_there;
+use agreement::access::same_address;
 use model::Address;
 use model::Item;
 use model::Refusal;

@@ -8,15 +8,15 @@ use crate::memory::set_control;
 use crate::operands::action_of;
 use crate::refusals::ACCESS_DIFFERS;
 use crate::refusals::WRONG_TRANSITION;
-use crate::rows::group_of;
-use crate::rows::opened_after;
-use crate::rows::row_after;
 use crate::step::Step;
-use crate::transitions::command_at;
+use agreement::rows::group_of;
+use agreement::rows::joins_row;
+use agreement::rows::row_after;
 use model::Header;
 use model::Item;
 use model::Kind;
 use model::Refusal;
+use transitions::command_at;
 ghost use mathlib.Core.Path.{_≡_};
 ghost use Prim.Native.Nat.{_<_};
 ghost use Rattle.model.specs.Limits.{maxItems};
@@ -27,12 +27,20 @@ ghost use mathlib.Core.Option.{some};
 ghost use Prim.Native.Nat.{ℕ};
 ghost use Rattle.model.specs.Bytes.{found};
 ghost use Rattle.model.specs.Programs.{readTransition};
-ghost use Rattle.model.specs.Replay.{afterAction, kindNumber, sameKind, takeTransition};
+ghost use Rattle.model.specs.Replay.{openedAfter, afterAction, kindNumber, sameKind, takeTransition};
 ghost use Rattle.replay.specs.Tables.{Rank};
 ghost use Rattle.replay.specs.Steps.{Ordered, Stepped, memory};
 ghost use Rattle.replay.specs.Actions.{ActionFits, answered};
 ghost use Rattle.replay.specs.Commands.{HeaderFits};
 ghost use Rattle.replay.specs.Verdicts.{verdictOf};
+
+// How many groups there are after a command item, where so many are open.
+fn opened_after(opened: u16, item: Item) -> u16
+    requires { ⌜ opened < 65535 ⌝ }
+    ensures { λ r. ⌜ r ≡ openedAfter opened item ⌝ }
+{
+    if joins_row(item) { opened } else { opened + 1 }
+}
 
 // "place or given value differs from the replay" comes last: with the action known, an item is taken or refused by its access alone.
 fn take_action(

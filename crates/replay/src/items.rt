@@ -3,8 +3,8 @@ use crate::commands::take_command;
 use crate::pops::take_delivery;
 use crate::pops::take_fetch;
 use crate::refusals::BARRIER_ROW;
-use crate::rows::row_allows;
 use crate::step::Step;
+use agreement::rows::row_allows;
 use model::Header;
 use model::Item;
 use model::Kind;
@@ -56,7 +56,7 @@ pub fn take_item(
     entries: &mut [[u16; 24576]; 8],
     counters: &mut [[u16; 12]; 8],
 ) -> Step
-    requires { ⌜ ItemFits header item ⌝ ∗ ⌜ HeaderFits header ⌝ ∗ ⌜ at < maxItems ⌝ ∗ ⌜ Ordered at (now counters) ⌝ ∗ ⌜ (opened < 65535) × (row < 255) ⌝ }
+    requires { ⌜ ItemFits header item ⌝ ∗ ⌜ HeaderFits header ⌝ ∗ ⌜ at < maxItems ⌝ ∗ ⌜ Ordered at (now counters) ⌝ ∗ ⌜ opened < 65535 ⌝ }
     ensures { λ r. ⌜ ((P : Program) → P .header ≡ header → Loaded (now (program .entry)) (now (starts .entry)) P →
         Stepped (λ s. takeItem P s at item) at
         (memory (now (control .entry)) (now (registers .entry)) (now (cells .entry)) (now (entries .entry)) (now (counters .entry)))

@@ -1,4 +1,4 @@
-// A transition with the values of its expressions, and what it asks for by them: 8 for an operand outside its range, then 9 for an assumption that fails.
+// What a transition asks for by the values of its expressions: 8 for an operand outside its range, then 9 for an assumption that fails.
 use crate::actions::Action;
 use crate::refusals::ASSUME_FAILS;
 use crate::refusals::OPERAND_RANGE;
@@ -6,23 +6,12 @@ use model::Address;
 use model::Header;
 use model::Kind;
 use model::Refusal;
+use transitions::Command;
 ghost use mathlib.Core.Path.{_≡_};
 ghost use Prim.Native.Nat.{_<_, _≤_};
 ghost use Rattle.model.specs.Limits.{maxRegisters, maxCells};
 ghost use Rattle.replay.specs.Actions.{ActionFits, answered};
 ghost use Rattle.replay.specs.Commands.{HeaderFits, TransferFits, transferBy, transferred, loadAction, storeAction, assumeAction, readAction, writeAction, actionBy};
-
-// A transition's kind, states and register, and the values of its expressions. An expression that its kind does not have is 0.
-pub struct Command {
-    pub kind: Kind,
-    pub source: u8,
-    pub target: u8,
-    pub register: u8,
-    pub e1: u16,
-    pub e2: u16,
-    pub e3: u16,
-    pub e4: u16,
-}
 
 // The addresses and the queue of a transfer, or the refusal of an operand.
 pub enum Transferred {

@@ -1,5 +1,4 @@
 // The pops: a fetch reads the source cell of the oldest request, a delivery writes the oldest delivery.
-use crate::agreement::agrees_there;
 use crate::memory::cell_at;
 use crate::memory::set_cell;
 use crate::queues::Head;
@@ -15,6 +14,7 @@ use crate::refusals::EMPTY_QUEUE;
 use crate::step::Step;
 use crate::step::read_of;
 use crate::step::write_of;
+use agreement::access::agrees_there;
 use model::Item;
 use model::Refusal;
 ghost use Prim.Native.Nat.{_<_};

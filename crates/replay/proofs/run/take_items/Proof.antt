@@ -68,7 +68,7 @@ take-item-requires c κs =
           few,
           (
             here-ordered (pre .0) (pre .1 .0) (pre .1 .1 .0) _ _ here,
-            (omega (arith, few, here .openedFew), omega (arith, here .rowFew)),
+            omega (arith, few, here .openedFew),
           ),
         ),
       ),

@@ -1,0 +1,2 @@
+-- What a transition is when it is read again at its start.
+pub mod Transitions
