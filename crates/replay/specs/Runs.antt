@@ -38,7 +38,7 @@ pub record Begun (m : Memory) : Type 0 where
   pub start : Start
   pub held : Holds 0 m (begin start)
 
--- "What the drawing of arrows needs": for each item its group, and its access.
+-- What the drawing of arrows needs: for each item its group, and its access.
 abbrev pub groupsOf : List Event → List ℕ
 groupsOf events = map (λ (e : Event). e .group) events
 

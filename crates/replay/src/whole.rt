@@ -129,7 +129,7 @@ fn replay_record(
 
 // Replays a record on a program. The cells hold the start. At acceptance they hold the last contents, `control` and `registers` the last states and
 // registers, and entry i of `groups` and of `accesses` tells of item i: its group; and its access, 0 for none and else
-// 1 + 2 * (64 * (rank - 1) + cell), plus 1 if it writes. On a refusal nothing lent changes.
+// 1 + 2 * (64 * (rank - 1) + cell), plus 1 if it writes. Their other entries are 0 then. On a refusal nothing lent changes.
 pub fn replay(
     program: &[u8],
     recorded: &[u8],
