@@ -5,23 +5,24 @@ use mathlib.Core.List.{List}
 use mathlib.Core.Logic.{_↔_}
 use Rattle.model.specs.declared.Item.{Item}
 use Rattle.model.specs.Refusals.{ok}
+use Rattle.model.specs.ItemKinds.{Part, command, fetch, delivery, partOf}
 use Rattle.model.specs.Programs.{Program}
 use Rattle.model.specs.Machine.{Start}
 use Rattle.model.specs.Rules.{Bare, IsRun}
-use Rattle.model.specs.Replay.{Part, command, fetch, delivery, partOf, Replayed, replay}
+use Rattle.model.specs.Replay.{Replayed, replay}
 use Rattle.model.specs.Traces.{Each, all, one, ChosenIn, InRecord}
 use Rattle.acceptance.specs.Bare.{bare}
 use Rattle.acceptance.specs.Ranges.{QueueIn, InRange}
 use Rattle.acceptance.proofs.Soundness.{accepted-run}
 use Rattle.acceptance.proofs.Completeness.{run-accepted}
 
--- Accepted: the replay refuses no item and not the end, and leaves this state.
-abbrev pub Accepted : Program → Start → List Item → Bare → Type 0
-Accepted P start items last = (r : Replayed) × (replay P start items ≡ ok r) × (bare (r .last .machine) ≡ last)
+-- Accepted (document 01): the replay refuses no item and not the end, and leaves this state.
+abbrev pub ReplaysTo : Program → Start → List Item → Bare → Type 0
+ReplaysTo P start items last = (r : Replayed) × (replay P start items ≡ ok r) × (bare (r .last .machine) ≡ last)
 
 -- For every program, every start, and every list of items whose ranks and queues the machine has, of any length.
 pub accepted-iff-run : (P : Program) (start : Start) (items : List Item) (last : Bare) → Each (InRange P) items →
-    Accepted P start items last ↔ IsRun P start items last
+    ReplaysTo P start items last ↔ IsRun P start items last
 accepted-iff-run P start items last ranges =
     (λ a. subst (IsRun P start items) (a .2) (accepted-run P start items (a .0) ranges (a .1)), run-accepted P start items last)
 
@@ -38,5 +39,5 @@ in-record-in-range P (one {a = i} h rest) =
 
 -- The same for items as a record has them.
 pub record-accepted-iff-run : (P : Program) (start : Start) (items : List Item) (last : Bare) → Each (InRecord (P .header)) items →
-    Accepted P start items last ↔ IsRun P start items last
+    ReplaysTo P start items last ↔ IsRun P start items last
 record-accepted-iff-run P start items last h = accepted-iff-run P start items last (in-record-in-range P h)

@@ -1,30 +1,17 @@
 -- The replay's test of an item's place and value says what the rules' relation says: the address of the access and, where one is given, its value.
 use Prim.Native.Nat.{ℕ}
-use mathlib.Core.Path.{_≡_, refl, ap}
+use mathlib.Core.Path.{_≡_, refl}
 use mathlib.Core.Bool.{true}
 use mathlib.Core.Option.{Option, some, none}
-use lib.Dec.{eqb}
 use borrow.Author.Tests.{eqb-true, eq-eqb}
-use Rattle.model.specs.declared.Address.{Address}
 use Rattle.model.specs.declared.Given.{Given}
 use Rattle.model.specs.declared.Given.the-variants.{Value, Absent}
 use Rattle.model.specs.declared.Item.{Item}
 use Rattle.model.specs.Machine.{Access}
 use Rattle.model.specs.Rules.{GivenAs, PlacedAs}
 use Rattle.model.specs.Replay.{sameAddress, agrees, agreesWith}
+use Rattle.model.proofs.Replay.{sameAddress-true, true-sameAddress}
 use Rattle.model.proofs.Laws.{and-true, true-and}
-
--- Two addresses are the same exactly if their ranks and cells are.
-pub sameAddress-true : (a b : Address) → sameAddress a b ≡ true → a ≡ b
-sameAddress-true a b h =
-    let both = and-true (eqb (a .rank) (b .rank)) (eqb (a .cell) (b .cell)) h in
-    λ i. record { rank = eqb-true (a .rank) (b .rank) (both .0) i; cell = eqb-true (a .cell) (b .cell) (both .1) i }
-
-pub true-sameAddress : (a b : Address) → a ≡ b → sameAddress a b ≡ true
-true-sameAddress a b h =
-    true-and (eqb (a .rank) (b .rank)) (eqb (a .cell) (b .cell))
-    (eq-eqb (a .rank) (b .rank) (ap (λ (c : Address). c .rank) h))
-    (eq-eqb (a .cell) (b .cell) (ap (λ (c : Address). c .cell) h))
 
 -- "An absent value is not checked."
 pub agrees-given : (g : Given) (v : ℕ) → agrees g v ≡ true → GivenAs v g

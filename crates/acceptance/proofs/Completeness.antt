@@ -12,15 +12,16 @@ use Rattle.model.specs.declared.Kind.the-variants.{Bar}
 use Rattle.model.specs.declared.Item.{Item}
 use Rattle.model.specs.Refusals.{ok}
 use Rattle.model.specs.Choice.{numbersFrom}
+use Rattle.model.specs.ItemKinds.{isBar}
 use Rattle.model.specs.Programs.{Program, Command, kindOf}
 use Rattle.model.specs.Machine.{Start, moveTo}
 use Rattle.model.specs.Rules.{Bare, Label, command, Rank, Enabled, Step, Run, stop, _then_, Recorded, AllRecorded, all, one, Final, IsRun}
-use Rattle.model.specs.Replay.{isBar, Replay, Replayed, Taken, accessOf, begin, rowAllows, takeItems, atEnd, replay}
+use Rattle.model.specs.Replay.{Replay, Replayed, Taken, accessOf, begin, rowAllows, takeItems, atEnd, replay}
+use Rattle.model.proofs.Replay.{ItemTaken, takes-item}
 use Rattle.model.proofs.Laws.{decided, when-true, when-false}
+use Rattle.model.proofs.Actions.{loading, storing, assigning, passing, reading, writing, meeting}
 use Rattle.acceptance.specs.Bare.{bare}
 use Rattle.acceptance.proofs.Quiet.{final-quiet}
-use Rattle.acceptance.proofs.Actions.{loading, storing, assigning, passing, reading, writing, meeting}
-use Rattle.acceptance.proofs.Inversion.{ItemTaken, takes-item}
 use Rattle.acceptance.proofs.Appending.{joined, takeItems-append}
 use Rattle.acceptance.proofs.Marks.{successor}
 use Rattle.acceptance.proofs.Single.{Takes, asks-takes, fetch-takes, delivery-takes}

@@ -4,8 +4,6 @@ pub mod Numbers
 pub mod Quiet
 pub mod ItemKinds
 pub mod Agreement
-pub mod Actions
-pub mod Inversion
 pub mod Marks
 pub mod Single
 pub mod Rows

@@ -1,28 +1,15 @@
 -- What the replay leaves after an item is what Table 1's rule leaves, but for the marks. Erasing commutes with every change of a state: the parts
 -- without marks are the same, and in the queues a list with its marks erased takes the place of a list with its marks erased.
 use Prim.Native.Nat.{ℕ}
-use mathlib.Core.Path.{_≡_, refl, ap, fun-ext, _∙_}
-use mathlib.Core.Bool.{Bool, true, false, _&&_}
+use mathlib.Core.Path.{_≡_, refl, ap, _∙_}
 use mathlib.Core.List.{List, [], _∷_, _++_, map, map-append, nil≢cons, head-eq-of-cons-eq, tail-eq-of-cons-eq}
-use lib.Dec.{eqb}
 use Rattle.model.specs.declared.Item.{Item}
-use Rattle.model.specs.Choice.{when}
 use Rattle.model.specs.Programs.{Program}
-use Rattle.model.specs.Machine.{State, Request, Delivery, Action, loads, stores, assigns, passes, issues, meets, address, cellAt, put₂, moveTo, setRegister, setCell, setRequests, setDeliveries}
+use Rattle.model.specs.Machine.{State, Request, Delivery, Action, loads, stores, assigns, passes, issues, meets, address, cellAt, moveTo, setRegister, setCell, setRequests, setDeliveries}
 use Rattle.model.specs.Rules.{Bare, ask, send}
-use Rattle.model.specs.Replay.{Origin, Replay, perform}
+use Rattle.model.specs.Replay.{Origin, Replay, perform, sentOn, afterFetch, afterDelivery}
+use Rattle.model.proofs.Laws.{put₂-map}
 use Rattle.acceptance.specs.Bare.{bare, bareRequest, bareDelivery}
-use Rattle.acceptance.proofs.Inversion.{fetched, delivered}
-
--- A function applied to both sides of a choice.
-when-map : {A B : Type 0} (f : A → B) (t : Bool) (a b : A) → f (when t (λ _. a) (λ _. b)) ≡ when t (λ _. f a) (λ _. f b)
-when-map f true a b = refl
-when-map f false a b = refl
-
--- A function applied to every value of a function with one value changed.
-pub put₂-map : {A B : Type 0} (f : A → B) (g : ℕ → ℕ → A) (i j : ℕ) (v : A) → (λ k l. f (put₂ g i j v k l)) ≡ put₂ (λ k l. f (g k l)) i j (f v)
-unfolding put₂
-put₂-map f g i j v = fun-ext λ k. fun-ext λ l. when-map f (eqb k i && eqb l j) v (g k l)
 
 -- A list that is not empty without its marks is not empty with them.
 pub map-cons : {A B : Type 0} (f : A → B) (l : List A) {b : B} {bs : List B} → map f l ≡ b ∷ bs →
@@ -87,29 +74,29 @@ bare-perform P m r origin (issues q source destination) q₂ =
 bare-perform P m r origin meets q₂ = refl
 
 -- The successor states of the rules for pops, by the head of the queue and the rest.
-abbrev pub afterFetch : Program → Bare → (r q : ℕ) → Request (Unit {0}) → List (Request (Unit {0})) → Bare
-afterFetch P s r q a α = send P (setRequests s r q α) r q (a .destination) (cellAt (s .cells) (a .source))
+abbrev pub fetchSuccessor : Program → Bare → (r q : ℕ) → Request (Unit {0}) → List (Request (Unit {0})) → Bare
+fetchSuccessor P s r q a α = send P (setRequests s r q α) r q (a .destination) (cellAt (s .cells) (a .source))
 
-abbrev pub afterDelivery : Bare → (r q : ℕ) → Delivery (Unit {0}) → List (Delivery (Unit {0})) → Bare
-afterDelivery s r q b β = setCell (setDeliveries s r q β) (b .destination) (b .value)
+abbrev pub deliverySuccessor : Bare → (r q : ℕ) → Delivery (Unit {0}) → List (Delivery (Unit {0})) → Bare
+deliverySuccessor s r q b β = setCell (setDeliveries s r q β) (b .destination) (b .value)
 
 -- Pops leave them.
 pub bare-fetched : (P : Program) (s : Replay) (i : Item) (a : Request Origin) (rest : List (Request Origin)) →
-    bare (fetched s i a rest .state .machine) ≡
-    afterFetch P (bare (s .machine)) (i .rank) (i .queue) (bareRequest a) (map bareRequest rest)
+    bare (afterFetch s i a rest .state .machine) ≡
+    fetchSuccessor P (bare (s .machine)) (i .rank) (i .queue) (bareRequest a) (map bareRequest rest)
 unfolding bare setRequests setDeliveries
 bare-fetched P s i a rest =
     let r : ℕ = i .rank in
     let q : ℕ = i .queue in
     let m : State Origin = s .machine in
-    let sent : Delivery Origin = record { destination = a .destination; value = cellAt (m .cells) (a .source); mark = a .mark } in
+    let sent : Delivery Origin = sentOn s a in
     bare-setDeliveries (setRequests m r q rest) r q (m .deliveries r q ++ sent ∷ []) ∙
     ap (λ (x : Bare). setDeliveries x r q (map bareDelivery (m .deliveries r q ++ sent ∷ []))) (bare-setRequests m r q rest) ∙
     ap (setDeliveries (setRequests (bare m) r q (map bareRequest rest)) r q) (map-append bareDelivery (m .deliveries r q) (sent ∷ []))
 
 pub bare-delivered : (s : Replay) (i : Item) (b : Delivery Origin) (rest : List (Delivery Origin)) →
-    bare (delivered s i b rest .state .machine) ≡
-    afterDelivery (bare (s .machine)) (i .rank) (i .queue) (bareDelivery b) (map bareDelivery rest)
+    bare (afterDelivery s i b rest .state .machine) ≡
+    deliverySuccessor (bare (s .machine)) (i .rank) (i .queue) (bareDelivery b) (map bareDelivery rest)
 unfolding bare setCell
 bare-delivered s i b rest =
     ap (λ (x : Bare). setCell x (b .destination) (b .value)) (bare-setDeliveries (s .machine) (i .rank) (i .queue) rest)

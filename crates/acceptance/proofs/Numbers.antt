@@ -4,11 +4,11 @@ use mathlib.Core.Path.{_≡_, refl, ap, ap₂, _∙_}
 use mathlib.Core.Bool.{Bool, true, false, false≢true}
 use mathlib.Core.List.{[], _∷_, _++_, map}
 use native.Mathlib.Omega.{arith}
-use lib.Dec.{eqb, leb}
-use borrow.Author.Tests.{eqb-true, eqb-false, leb-true, le-leb}
-use Rattle.model.specs.Choice.{when, between, numbersFrom}
+use lib.Dec.{eqb}
+use borrow.Author.Tests.{eqb-true, eqb-false}
+use Rattle.model.specs.Choice.{when, numbersFrom}
 use Rattle.model.specs.Replay.{every}
-use Rattle.model.proofs.Laws.{decided, and-true, true-and}
+use Rattle.model.proofs.Laws.{decided}
 
 -- A choice that fails on one side passes only on the other.
 when-passes : (t b : Bool) → when t (λ _. b) (λ _. false) ≡ true → (t ≡ true) × (b ≡ true)
@@ -49,14 +49,3 @@ unfolding numbersFrom
 map-numbers f g first zero h = refl
 map-numbers f g first (suc count) h =
     ap₂ _∷_ (h first (omega arith) (omega arith)) (map-numbers f g (first + 1) count (λ n low high. h n (omega arith) (omega arith)))
-
--- A number inside a range, and outside: `between` says so.
-pub between-true : (low high n : ℕ) → between low high n ≡ true → (low ≤ n) × (n ≤ high)
-between-true low high n h =
-    (leb-true low n (and-true (leb low n) (leb n high) h .0), leb-true n high (and-true (leb low n) (leb n high) h .1))
-
-pub true-between : (low high n : ℕ) → low ≤ n → n ≤ high → between low high n ≡ true
-true-between low high n p q = true-and (leb low n) (leb n high) (le-leb low n p) (le-leb n high q)
-
-pub between-false : (low high n : ℕ) → ¬ ((low ≤ n) × (n ≤ high)) → between low high n ≡ false
-between-false low high n h = decided (between low high n) (λ t. absurd (h (between-true low high n t))) (λ f. f)

@@ -14,8 +14,8 @@ use Rattle.model.specs.Choice.{when, between, numbersFrom}
 use Rattle.model.specs.Programs.{Program, Command}
 use Rattle.model.specs.Machine.{put, moveTo}
 use Rattle.model.specs.Rules.{Bare, Label, command, Enabled, Step}
-use Rattle.model.proofs.Laws.{decided, when-true, when-false, put-same, put-other}
-use Rattle.acceptance.proofs.Numbers.{between-true, true-between, between-false, numbersFrom-snoc, map-numbers}
+use Rattle.model.proofs.Laws.{decided, when-true, when-false, put-same, put-other, between-true, true-between, between-false}
+use Rattle.acceptance.proofs.Numbers.{numbersFrom-snoc, map-numbers}
 
 -- Ranks 1 to k have moved to their st′.
 abbrev pub moved : Bare → (k : ℕ) → (ℕ → ℕ) → Bare
@@ -42,19 +42,24 @@ same-control s f g h =
 pub moved-none : (s : Bare) (st′ : ℕ → ℕ) → moved s 0 st′ ≡ s
 moved-none s st′ =
     same-control s (moved s 0 st′ .control) (s .control)
-    (λ r. when-false (λ _. st′ r) (λ _. s .control r) (between-false 1 0 r (λ h. omega (arith, h .0, h .1))))
+    (λ r. when-false (λ _. st′ r) (λ _. s .control r) (between-false 1 0 r (λ h. omega (arith, h .low, h .high))))
 
 -- The rank after those that have moved is where it was.
 pub moved-next-control : (s : Bare) (k : ℕ) (st′ : ℕ → ℕ) → moved s k st′ .control (k + 1) ≡ s .control (k + 1)
 moved-next-control s k st′ =
-    when-false (λ _. st′ (k + 1)) (λ _. s .control (k + 1)) (between-false 1 k (k + 1) (λ h. omega (arith, h .1)))
+    when-false (λ _. st′ (k + 1)) (λ _. s .control (k + 1)) (between-false 1 k (k + 1) (λ h. omega (arith, h .high)))
 
 -- Ranks 1 to k + 1, but for the last of them, are ranks 1 to k.
 between-next : (k r : ℕ) → ¬ (r ≡ k + 1) → between 1 (k + 1) r ≡ between 1 k r
 between-next k r other =
     decided (between 1 k r)
-    (λ t. let (low, high) = between-true 1 k r t in true-between 1 (k + 1) r low (omega arith) ∙ sym t)
-    (λ f. between-false 1 (k + 1) r (λ h. absurd (false≢true (sym f ∙ true-between 1 k r (h .0) (omega (arith, h .1, other))))) ∙ sym f)
+    (λ t.
+    let h = between-true 1 k r t in
+    true-between 1 (k + 1) r (record { low = h .low; high = omega (arith, h .high) }) ∙ sym t)
+    (λ f.
+    between-false 1 (k + 1) r
+    (λ h. false≢true (sym f ∙ true-between 1 k r (record { low = h .low; high = omega (arith, h .high, other) }))) ∙
+    sym f)
 
 -- One more rank moves.
 pub moved-next : (s : Bare) (k q : ℕ) (st′ st″ : ℕ → ℕ) → st″ (k + 1) ≡ q → ((r : ℕ) → 1 ≤ r → r ≤ k → st″ r ≡ st′ r) →
@@ -67,7 +72,7 @@ moved-next s k q st′ st″ here before =
     (λ t.
     let same : r ≡ k + 1 = eqb-true r (k + 1) t in
     ap (put control (k + 1) q) same ∙ put-same control (k + 1) q ∙ sym here ∙ ap st″ (sym same) ∙
-    sym (when-true (λ _. st″ r) (λ _. s .control r) (true-between 1 (k + 1) r (omega arith) (omega arith))))
+    sym (when-true (λ _. st″ r) (λ _. s .control r) (true-between 1 (k + 1) r (record { low = omega arith; high = omega arith }))))
     (λ f.
     let other : ¬ (r ≡ k + 1) = eqb-false r (k + 1) f in
     put-other control (k + 1) q r other ∙ rw (between-next k r other) (agree r))
@@ -75,7 +80,9 @@ moved-next s k q st′ st″ here before =
     agree : (r : ℕ) → when (between 1 k r) (λ _. st′ r) (λ _. s .control r) ≡ when (between 1 k r) (λ _. st″ r) (λ _. s .control r)
     agree r =
         decided (between 1 k r)
-        (λ t. let (low, high) = between-true 1 k r t in ap (λ n. when (between 1 k r) (λ _. n) (λ _. s .control r)) (sym (before r low high)))
+        (λ t.
+        let h = between-true 1 k r t in
+        ap (λ n. when (between 1 k r) (λ _. n) (λ _. s .control r)) (sym (before r (h .low) (h .high))))
         (λ f. rw f)
 
 -- The events of ranks 1 to k in a row.

@@ -13,16 +13,17 @@ use Rattle.model.specs.declared.Kind.the-variants.{Bar}
 use Rattle.model.specs.declared.Item.{Item}
 use Rattle.model.specs.Refusals.{ok, barrierRow, queuesLeft}
 use Rattle.model.specs.Choice.{numbersFrom}
+use Rattle.model.specs.ItemKinds.{isBar}
 use Rattle.model.specs.Programs.{Program, Command}
 use Rattle.model.specs.Machine.{Start, moveTo}
 use Rattle.model.specs.Rules.{Bare, Label, command, Enabled, Step, Run, stop, _then_, Recorded, AllRecorded, all, one, IsRun}
-use Rattle.model.specs.Replay.{isBar, Replay, Taken, Replayed, begin, takeItem, takeItems, quiet, atEnd, replay}
+use Rattle.model.specs.Replay.{Replay, Taken, Replayed, begin, takeItem, takeItems, quiet, atEnd, replay}
 use Rattle.model.specs.Traces.{Each}
+use Rattle.model.proofs.Replay.{ItemTaken, item-taken}
 use Rattle.model.proofs.Laws.{bind-ok, required, ok-injective, decided, when-true, when-false}
 use Rattle.acceptance.specs.Bare.{bare}
 use Rattle.acceptance.specs.Ranges.{InRange}
 use Rattle.acceptance.proofs.Quiet.{quiet-final}
-use Rattle.acceptance.proofs.Inversion.{ItemTaken, item-taken}
 use Rattle.acceptance.proofs.Single.{Stepped, taken-step}
 use Rattle.acceptance.proofs.Rows.{moved, moved-none, rowLabels, Entered, nobody, Grown, enter, row-step}
 use Rattle.acceptance.proofs.Bars.{BarTaken, bar-taken, single-row}

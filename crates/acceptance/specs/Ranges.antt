@@ -1,8 +1,8 @@
 -- The ranges that Table 1 asks of an event and that the replay leaves to the record's reader: r ∈ RNK, and q ∈ QUE for a pop.
 use Rattle.model.specs.declared.Item.{Item}
+use Rattle.model.specs.ItemKinds.{Part, command, fetch, delivery, partOf}
 use Rattle.model.specs.Programs.{Program}
 use Rattle.model.specs.Rules.{Rank, Queue}
-use Rattle.model.specs.Replay.{Part, command, fetch, delivery, partOf}
 
 -- Only a pop names a queue.
 abbrev pub QueueIn : Program → Part → Item → Type 0

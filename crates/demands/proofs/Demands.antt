@@ -1,82 +1,123 @@
--- Demands 2 and 3 for program bytes and record bytes, and every start: what the whole project promises of its definitions, on one page. The proofs stand in
--- the crates below.
+-- Demands 2 and 3 for program bytes and record bytes, and every start: what the whole project promises of its definitions, on one page. The proofs
+-- stand in the crates below.
 use Prim.Native.Nat.{ℕ}
 use mathlib.Core.Path.{_≡_, subst}
 use mathlib.Core.List.{List}
 use mathlib.Core.Logic.{_↔_, _⊎_, inl, inr, ⊎-elim}
 use Rattle.model.specs.declared.Item.{Item}
-use Rattle.model.specs.Refusals.{Result, ok, _>>=_}
+use Rattle.model.specs.Refusals.{ok}
+use Rattle.model.specs.Bytes.{AreBytes}
 use Rattle.model.specs.Programs.{Program, readProgram}
 use Rattle.model.specs.Records.{readRecord}
 use Rattle.model.specs.Machine.{Start}
 use Rattle.model.specs.Rules.{Bare, IsRun}
-use Rattle.model.specs.Replay.{Event, Replayed, replay}
+use Rattle.model.specs.Replay.{Event, replay, Replayed}
 use Rattle.model.specs.HappensBefore.{HappensBefore, edgesOf}
 use Rattle.model.specs.Traces.{Each, InRecord}
-use Rattle.model.specs.Checks as Checks
 use Rattle.model.specs.Orders.{ordered, cyclic}
-use Rattle.model.specs.Checks.{accept, verdictOn}
+use Rattle.model.specs.Checks.{accept, verdictOn, Accepted}
 use Rattle.model.proofs.Laws.{bind-ok, ok-injective}
-use Rattle.acceptance.proofs.Acceptance.{Accepted, record-accepted-iff-run}
+use Rattle.model.proofs.Ranges.{read-in-record}
+use Rattle.acceptance.proofs.Acceptance.{record-accepted-iff-run}
 use Rattle.ordering.proofs.Lists.{_∈_}
 use Rattle.ordering.proofs.Edges.{_⟶_, edges-agree}
 use Rattle.ordering.proofs.Orders.{TopologicalOrder, Cycle}
 use Rattle.ordering.proofs.Verdicts.{ordered-or-cyclic}
 use Rattle.ordering.proofs.Runs.{run-order, run-cycle}
-use Rattle.runs.proofs.Accepted.{facts}
-use Rattle.record.specs.Places.{AreBytes}
-use Rattle.record.proofs.Places.{record-items}
-use Rattle.record.proofs.Ranges.{items-in-record}
-use Rattle.serial.specs.Claim.{Serializable}
-use Rattle.serial.proofs.Serializability.{serializable}
+use Rattle.record_facts.proofs.FactsHold.{facts}
+use Rattle.serializability.specs.Claim.{Serializable}
+use Rattle.serializability.proofs.Serializability.{serializable}
+use Rattle.acceptance.specs.Bare.{bare}
+
+-- These bytes are accepted: the check reads this program, refuses nothing, and the machine is left in this state.
+pub record AcceptedTo (start : Start) (program recorded : List ℕ) (P : Program) (last : Bare) : Type 0 where
+  pub run : Replayed
+  pub accepted : accept start program recorded ≡ ok (record { program = P; run = run })
+  pub state : bare (run .last .machine) ≡ last
+
+-- These bytes are a run: a readable program, a readable record for it, and its items record a run of the program under Table 1 from the start to this
+-- state, with empty queues.
+pub record AreRun (start : Start) (program recorded : List ℕ) (P : Program) (last : Bare) : Type 0 where
+  pub items : List Item
+  pub program-read : readProgram program ≡ ok P
+  pub record-read : readRecord (P .header) recorded ≡ ok items
+  pub is-run : IsRun P start items last
 
 -- What is accepted was read and replayed, and its items are items as a record has them.
-record Parts (start : Start) (a : Checks.Accepted) : Type 0 where
+record Parts (start : Start) (program recorded : List ℕ) (a : Accepted) : Type 0 where
   items : List Item
+  program-read : readProgram program ≡ ok (a .program)
+  record-read : readRecord (a .program .header) recorded ≡ ok items
   in-record : Each (InRecord (a .program .header)) items
   replayed : replay (a .program) start items ≡ ok (a .run)
 
--- The items of a record that was read are items as a record has them.
-read-in-record : (P : Program) (recorded : List ℕ) (items : List Item) → AreBytes recorded → readRecord (P .header) recorded ≡ ok items →
-    Each (InRecord (P .header)) items
-read-in-record P recorded items bytes h = items-in-record bytes (record-items (P .header) recorded h .items-from)
+parts : (start : Start) (program recorded : List ℕ) (a : Accepted) → AreBytes recorded → accept start program recorded ≡ ok a →
+    Parts start program recorded a
+unfolding accept
+parts start program recorded a bytes accepted =
+    let (P, program-read, h₁) = bind-ok (readProgram program) _ accepted in
+    let (items, record-read, h₂) = bind-ok (readRecord (P .header) recorded) _ h₁ in
+    let (run, replayed, h₃) = bind-ok (replay P start items) _ h₂ in
+    subst (Parts start program recorded) (ok-injective h₃)
+    (record {
+      items = items;
+      program-read = program-read;
+      record-read = record-read;
+      in-record = read-in-record (P .header) recorded bytes record-read;
+      replayed = replayed;
+    })
 
--- Demand 2. "A record is accepted exactly if it is a run of the program under Table 1 of the source, ending with empty queues": with the same last state.
-pub accepted-iff-run : (P : Program) (start : Start) (recorded : List ℕ) (items : List Item) (last : Bare) → AreBytes recorded →
-    readRecord (P .header) recorded ≡ ok items → Accepted P start items last ↔ IsRun P start items last
-accepted-iff-run P start recorded items last bytes h =
-    record-accepted-iff-run P start items last (read-in-record P recorded items bytes h)
+-- Demand 2. "A record is accepted exactly if it is a run of the program under Table 1 of the source, ending with empty queues": with the same last
+-- state.
+pub accepted-iff-run : (start : Start) (program recorded : List ℕ) (P : Program) (last : Bare) → AreBytes recorded →
+    AcceptedTo start program recorded P last ↔ AreRun start program recorded P last
+unfolding accept
+accepted-iff-run start program recorded P last bytes = (sound, complete)
+  where
+    sound : AcceptedTo start program recorded P last → AreRun start program recorded P last
+    sound h =
+        let p = parts start program recorded (record { program = P; run = h .run }) bytes (h .accepted) in
+        record {
+          items = p .items;
+          program-read = p .program-read;
+          record-read = p .record-read;
+          is-run = record-accepted-iff-run P start (p .items) last (p .in-record) .0 (h .run, p .replayed, h .state);
+        }
+
+    complete : AreRun start program recorded P last → AcceptedTo start program recorded P last
+    complete h =
+        let (run, replayed, state) =
+        record-accepted-iff-run P start (h .items) last (read-in-record (P .header) recorded bytes (h .record-read)) .1 (h .is-run) in
+        record { run = run; accepted = rw (h .program-read, h .record-read, replayed); state = state }
 
 -- ".. and the arrows drawn are its happens-before relation between groups."
 pub arrows-are-happens-before : (events : List Event) (g h : ℕ) → (g ⟶ h ∈ edgesOf events) ↔ HappensBefore events g h
 arrows-are-happens-before = edges-agree
 
 -- An accepted record of a readable program.
-module _ (start : Start) (program recorded : List ℕ) (a : Checks.Accepted) (bytes : AreBytes recorded) (accepted : accept start program recorded ≡ ok a) where
-  parts : Parts start a
-  unfolding accept
-  parts =
-      let (P, readP, h₁) = bind-ok (readProgram program) _ accepted in
-      let (items, readI, h₂) = bind-ok (readRecord (P .header) recorded) _ h₁ in
-      let (run, replayed, h₃) = bind-ok (replay P start items) _ h₂ in
-      subst (Parts start) (ok-injective h₃)
-      (record { items = items; in-record = read-in-record P recorded items bytes readI; replayed = replayed })
+module _ (start : Start) (program recorded : List ℕ) (a : Accepted) (bytes : AreBytes recorded)
+    (accepted : accept start program recorded ≡ ok a) where
+  read : Parts start program recorded a
+  read = parts start program recorded a bytes accepted
 
-  -- The order is a permutation of all groups in which every arrow goes forward, the ring two or more groups along arrows, from its lowest number; one of the
-  -- two always comes.
-  pub order-or-ring : ((groups : List ℕ) × (verdictOn (a .run) ≡ ordered groups) × TopologicalOrder (a .run .last .opened) (edgesOf (a .run .events)) groups) ⊎
+  -- The order is a permutation of all groups in which every arrow goes forward, the ring two or more groups along arrows, from its lowest number; one
+  -- of the two always comes.
+  pub order-or-ring :
+      ((groups : List ℕ) × (verdictOn (a .run) ≡ ordered groups) ×
+      TopologicalOrder (a .run .last .opened) (edgesOf (a .run .events)) groups) ⊎
       ((cycle : List ℕ) × (verdictOn (a .run) ≡ cyclic cycle) × Cycle (a .run .last .opened) (edgesOf (a .run .events)) cycle)
   unfolding verdictOn
   order-or-ring =
       let opened = a .run .last .opened in
       let events = a .run .events in
-      let below = facts (a .program) start (parts .items) (a .run) (parts .in-record) (parts .replayed) .group-bound in
+      let below = facts (a .program) start (read .items) (a .run) (read .in-record) (read .replayed) .group-bound in
       ⊎-elim
       (λ (groups, is). inl (groups, is, run-order opened events below groups is))
       (λ (cycle, is). inr (cycle, is, run-cycle opened events below cycle is))
       (ordered-or-cyclic opened (edgesOf events))
 
-  -- Demand 3. "For every readable program and every accepted record: a ring is returned exactly when no plain run of the program from the same start has the
-  -- record's trace; otherwise the returned order is a plain run with that trace, the record's value at each access, and the same last cells and registers."
+  -- Demand 3. "For every readable program and every accepted record: a ring is returned exactly when no plain run of the program from the same start
+  -- has the record's trace; otherwise the returned order is a plain run with that trace, the record's value at each access, and the same last cells
+  -- and registers."
   pub accepted-serializable : Serializable (a .program) start (a .run)
-  accepted-serializable = serializable (parts .in-record) (parts .replayed)
+  accepted-serializable = serializable (read .in-record) (read .replayed)

@@ -1,17 +1,17 @@
 -- Laws about the definitions' building stones: results, tests, and functions with one value changed. A proof about a definition cites these instead
 -- of unfolding the same stones again.
-use Prim.Native.Nat.{ℕ, zero, suc, _<_, _+_}
-use mathlib.Core.Path.{_≡_, refl, sym, ap, subst}
-use mathlib.Core.Bool.{Bool, true, false, not, _&&_, _||_, false≢true}
-use mathlib.Core.List.{List, [], _∷_, _++_}
-use mathlib.Core.Option.{Option, some, none, Option·none-ne-some}
-use native.Mathlib.Nat.{le-of-suc-le-suc, not-suc-le-zero, zero-lt-suc}
+use Prim.Native.Nat.{ℕ, zero, suc, _<_, _≤_}
+use mathlib.Core.Path.{_≡_, refl, sym, subst, _∙_, ap, fun-ext}
+use mathlib.Core.Bool.{Bool, true, false, _&&_, _||_, false≢true}
+use mathlib.Core.List.{List, [], _∷_}
+use mathlib.Core.Option.{some, Option·none-ne-some}
+use native.Mathlib.Nat.{zero-lt-suc}
 use native.Mathlib.Omega.{arith}
-use lib.Dec.{eqb}
+use lib.Dec.{eqb, leb}
 use lib.ListN.{length, getElem?}
-use borrow.Author.Tests.{eq-eqb, ne-eqb, eqb-true}
+use borrow.Author.Tests.{eq-eqb, ne-eqb, eqb-true, leb-true, le-leb}
 use Rattle.model.specs.Refusals.{Result, ok, refused, require, _>>=_}
-use Rattle.model.specs.Choice.{when}
+use Rattle.model.specs.Choice.{when, between}
 use Rattle.model.specs.Machine.{put, put₂}
 
 -- A value is no refusal, and tells what it is a value of.
@@ -36,6 +36,20 @@ pub required : {B : Type 0} (t : Bool) (number place : ℕ) (f : Unit {0} → Re
 required true number place f h = (refl, h)
 required false number place f h = absurd (refused≢ok h)
 
+-- What follows matters only at the value that was found, and it may be put together first or last.
+pub bind-cong : {A B : Type 0} (m : Result A) (f g : A → Result B) → ((a : A) → m ≡ ok a → f a ≡ g a) → (m >>= f) ≡ (m >>= g)
+bind-cong (ok a) f g h = h a refl
+bind-cong (refused r) f g h = refl
+
+pub bind-assoc : {A B C : Type 0} (m : Result A) (f : A → Result B) (g : B → Result C) → ((m >>= f) >>= g) ≡ (m >>= (λ a. f a >>= g))
+bind-assoc (ok a) f g = refl
+bind-assoc (refused r) f g = refl
+
+-- An answer that keeps all that was found tells it again: what the answer is known to be says what the reader found.
+pub told : {A B : Type 0} (answer : Result A → B) (result : B → Result A) → ((m : Result A) → result (answer m) ≡ m) →
+    (m : Result A) {b c : B} → b ≡ answer m → b ≡ c → m ≡ result c
+told answer result back m p q = sym (back m) ∙ ap result (sym p ∙ q)
+
 -- The two sides of a choice.
 pub when-true {ℓ} : {A : Type ℓ} {t : Bool} (a b : Unit {0} → A) → t ≡ true → when t a b ≡ a tt
 when-true a b h = rw h
@@ -59,6 +73,22 @@ pub decided : {P : Type 0} (t : Bool) → (t ≡ true → P) → (t ≡ false �
 decided true yes′ no′ = yes′ refl
 decided false yes′ no′ = no′ refl
 
+-- A number within a range, as the test says.
+pub record Within (least most n : ℕ) : Type 0 where
+  pub low : least ≤ n
+  pub high : n ≤ most
+
+pub between-true : (least most n : ℕ) → between least most n ≡ true → Within least most n
+between-true least most n h =
+    let (low, high) = and-true (leb least n) (leb n most) h in
+    record { low = leb-true least n low; high = leb-true n most high }
+
+pub true-between : (least most n : ℕ) → Within least most n → between least most n ≡ true
+true-between least most n h = true-and (leb least n) (leb n most) (le-leb least n (h .low)) (le-leb n most (h .high))
+
+pub between-false : (least most n : ℕ) → ¬ (Within least most n) → between least most n ≡ false
+between-false least most n h = decided (between least most n) (λ t. absurd (h (between-true least most n t))) (λ f. f)
+
 pub eqb-refl : (n : ℕ) → eqb n n ≡ true
 eqb-refl n = eq-eqb n n refl
 
@@ -81,6 +111,11 @@ put₂-other f i j v k l h =
     decided (eqb k i && eqb l j)
     (λ t. absurd (h (eqb-true k i (and-true (eqb k i) (eqb l j) t .0), eqb-true l j (and-true (eqb k i) (eqb l j) t .1))))
     (λ t. rw t)
+
+-- Such a function, seen through another.
+pub put₂-map : {A B : Type 0} (F : A → B) (f : ℕ → ℕ → A) (i j : ℕ) (v : A) → (λ k l. F (put₂ f i j v k l)) ≡ put₂ (λ k l. F (f k l)) i j (F v)
+unfolding put₂
+put₂-map F f i j v = fun-ext λ k. fun-ext λ l. decided (eqb k i && eqb l j) (λ t. rw t) (λ t. rw t)
 
 -- The numbered members of a list.
 pub getElem?-bound : {A : Type 0} (l : List A) (i : ℕ) {a : A} → getElem? l i ≡ some a → i < length l

@@ -1,3 +1,10 @@
+-- The laws of each notion, beside its definition; then the table that holds the definitions to the paper.
 pub mod Laws
+pub mod Selections
+pub mod ItemKinds
+pub mod Bytes
+pub mod Ranges
+pub mod Actions
+pub mod Replay
 pub mod Samples
 pub mod StarredRuns

@@ -1,4 +1,5 @@
--- The programs and records of document 01's "Runs to check by", and more of the same kind, byte by byte: a header, then a transition or an item to a line.
+-- The programs and records of document 01's "Runs to check by", and more of the same kind, byte by byte: a header, then a transition or an item to a
+-- line.
 use Prim.Native.Nat.{ℕ}
 use mathlib.Core.List.{List, [], _∷_, _++_}
 use Rattle.model.specs.Listings.{join}
@@ -100,8 +101,8 @@ unfoldable pub sums : (count : ℕ) → (last : List ℕ) → List ℕ
 sums ℕ.zero last = last
 sums (ℕ.suc count) last = 0x10 ∷ 2 ∷ sums count last
 
--- Two transfers of one rank and queue with a store between them: write cell 0 to 1, store to cell 2, write cell 1 to 3. The second fetches cell 1 before the
--- first delivers there.
+-- Two transfers of one rank and queue with a store between them: write cell 0 to 1, store to cell 2, write cell 1 to 3. The second fetches cell 1
+-- before the first delivers there.
 unfoldable pub twoTransfers : List ℕ
 unfolding join
 twoTransfers =

@@ -1,8 +1,8 @@
--- The starred runs of document 01, and a run for each refusal and each of its "Mistakes that look sound", as one table. Expected answers were worked
--- out by hand from the paper. One theorem says that the definitions give each of them.
-use Prim.Native.Nat.{ℕ, _+_, _-_, _*_}
-use mathlib.Core.Path.{_≡_, refl}
-use mathlib.Core.List.{List, [], _∷_, _++_, map}
+-- The starred runs of document 01, and a run for each refusal and each of its "Mistakes that look sound", as one table in three sections. Expected
+-- answers were worked out by hand from the paper. A theorem for each section, and one for the table, says that the definitions give each of them.
+use Prim.Native.Nat.{ℕ, _+_, _-_}
+use mathlib.Core.Path.{_≡_, refl, sym, _∙_, ap₂}
+use mathlib.Core.List.{List, [], _∷_, _++_, map, map-append}
 use lib.ListN.{length, replicate}
 use Rattle.model.specs.declared.Answer.{Answer}
 use Rattle.model.specs.declared.Answer.the-variants.{Order, Ring, Refused}
@@ -12,7 +12,7 @@ use Rattle.model.specs.declared.Refusal.{Refusal}
 use Rattle.model.specs.Checks.{Outcome, check, checkBytes}
 use Rattle.model.specs.Slips.{Lent, writeSlip, readSlip}
 use Rattle.model.specs.Listings.{Listing, listing, join}
-use Rattle.model.proofs.Samples.{neighbour, noItems, exchange, loadOf, deliveries, lateDelivery, deliveryFirst, alone, selfCopy, writeItem, popItem, copyThenStore, storeItem, assumeOf, storeTo, storeOf, valueItem, sums, twoTransfers, overtaking}
+use Rattle.model.proofs.Samples.{neighbour, noItems, lateDelivery, deliveryFirst, alone, selfCopy, writeItem, popItem, copyThenStore, storeItem, assumeOf, storeTo, storeOf, valueItem, sums, twoTransfers, overtaking}
 
 -- What is asked: the whole check with what both lists hold, the same on bytes, a listing or a slip with what the memory holds, a slip read with N and
 -- what the counts hold.
@@ -146,47 +146,10 @@ lateListing =
 refusedLine10 : List ℕ
 refusedLine10 = 114 ∷ 101 ∷ 102 ∷ 117 ∷ 115 ∷ 101 ∷ 100 ∷ 32 ∷ 49 ∷ 32 ∷ 48 ∷ 10 ∷ []
 
--- a to l, as document 01 words them.
-starred : List Row
-unfolding
-    neighbour noItems lateDelivery deliveryFirst selfCopy writeItem popItem copyThenStore storeItem assumeOf storeTo storeOf valueItem
-    orderRow ringRow refusedRow listingRow order0 lateListing
-starred =
-    -- a* no items: an order of no groups (prints `order 0`)
-    orderRow neighbour noItems [] (0 ∷ 0 ∷ 0 ∷ 0 ∷ []) ∷
-    listingRow neighbour noItems (Order 0) order0 ∷
-    -- b* the load before the deliveries: the ring 3 4 5
-    ringRow neighbour lateDelivery 6 (3 ∷ 4 ∷ 5 ∷ []) (1 ∷ 2 ∷ 2 ∷ 1 ∷ []) ∷
-    listingRow neighbour lateDelivery (Ring 3) lateListing ∷
-    -- c* as b with the load last (value 2): order 0 1 2 3 4 5
-    orderRow neighbour deliveryFirst (0 ∷ 1 ∷ 2 ∷ 3 ∷ 4 ∷ 5 ∷ []) (1 ∷ 2 ∷ 2 ∷ 1 ∷ []) ∷
-    -- d* N = 1, a cell copied onto itself: order 0
-    orderRow selfCopy (0 ∷ 3 ∷ (writeItem ++ (popItem 7 0 ++ popItem 8 0))) (0 ∷ []) (0 ∷ []) ∷
-    -- e* N = 1: write from cell 0 to 1, store to cell 0, popa, popb: ring 0 1
-    ringRow copyThenStore (0 ∷ 4 ∷ (writeItem ++ (storeItem 1 0 ++ (popItem 7 0 ++ popItem 8 1)))) 2 (0 ∷ 1 ∷ []) (5 ∷ 5 ∷ []) ∷
-    -- f* a write alone: 13 at 1
-    refusedRow selfCopy (0 ∷ 1 ∷ writeItem) 13 1 ∷
-    -- g* popa first: 10 at 0
-    refusedRow selfCopy (0 ∷ 1 ∷ popItem 7 0) 10 0 ∷
-    -- h* write, popb: 10 at 1
-    refusedRow selfCopy (0 ∷ 2 ∷ (writeItem ++ popItem 8 0)) 10 1 ∷
-    -- i* assume of 0: 9 at 0
-    refusedRow (assumeOf 0) (0 ∷ 1 ∷ 3 ∷ 4 ∷ 1 ∷ 0 ∷ []) 9 0 ∷
-    -- j* bar of rank 2 first: 12 at 0
-    refusedRow neighbour (0 ∷ 1 ∷ 3 ∷ 9 ∷ 2 ∷ 2 ∷ []) 12 0 ∷
-    -- k* A = 64: store to cell 63 accepted; to cell 64, the item naming cell 63, gives 8
-    orderRow (storeTo 63) (0 ∷ 1 ∷ storeItem 0 63) (0 ∷ []) (replicate 63 0 ++ 1 ∷ []) ∷
-    refusedRow (storeTo 64) (0 ∷ 1 ∷ storeItem 0 63) 8 0 ∷
-    -- l* 65,535 + 1 gives 0; 0 − 1 gives 65,535
-    orderRow (storeOf (0x10 ∷ 0 ∷ 255 ∷ 255 ∷ 0 ∷ 0 ∷ 1 ∷ [])) (valueItem 0 0) (0 ∷ []) (0 ∷ []) ∷
-    orderRow (storeOf (0x11 ∷ 0 ∷ 0 ∷ 0 ∷ 0 ∷ 0 ∷ 1 ∷ [])) (valueItem 255 255) (0 ∷ []) (65_535 ∷ []) ∷ []
-
--- Each refusal, at places that tell neighbouring readings apart.
-refusals : List Row
-unfolding
-    neighbour noItems lateDelivery selfCopy writeItem popItem assumeOf storeOf valueItem sums storeItem alone exchange loadOf deliveries
-    refusedRow refusedWith listingRow noListingRow refusedLine10 filled notFilled nines refusal orderRow entryRow
-refusals =
+-- The readers: what is refused of program, record and slip bytes, at places that tell neighbouring readings apart.
+pub readingRows : List Row
+unfolding neighbour noItems alone storeOf valueItem sums orderRow refusedRow filled notFilled nines
+readingRows =
     -- 1: no byte at all; a transition cut off in its last expression; a byte left over
     refusedRow [] [] 1 0 ∷
     refusedRow (1 ∷ 1 ∷ 1 ∷ 1 ∷ 2 ∷ 1 ∷ 2 ∷ 4 ∷ 0 ∷ 1 ∷ 0 ∷ 0 ∷ []) noItems 1 12 ∷
@@ -221,6 +184,38 @@ refusals =
     -- 6: an unknown kind before its map; a map that is not among its kind's
     refusedRow neighbour (0 ∷ 1 ∷ 99 ∷ 10 ∷ []) 6 3 ∷
     refusedRow neighbour (0 ∷ 1 ∷ 27 ∷ 6 ∷ []) 6 2 ∷
+    -- the slip read: 0 for a rank without a bit; 16, then 15
+    filled (reads 3 (5 ∷ 0 ∷ 4 ∷ 4 ∷ 0 ∷ []) (nines 4)) (4 ∷ 0 ∷ 1_024 ∷ []) ∷
+    notFilled (reads 0 (0 ∷ []) (nines 1)) 1 16 0 ∷
+    notFilled (reads 9 (0 ∷ []) (nines 9)) 9 16 0 ∷
+    notFilled (reads 2 [] (nines 2)) 2 16 0 ∷
+    notFilled (reads 2 (4 ∷ 0 ∷ 1 ∷ []) (nines 2)) 2 16 0 ∷
+    notFilled (reads 2 (1 ∷ 0 ∷ 0 ∷ []) (nines 2)) 2 16 1 ∷
+    notFilled (reads 2 (3 ∷ 0 ∷ 1 ∷ 4 ∷ 1 ∷ []) (nines 2)) 2 16 3 ∷
+    notFilled (reads 2 (1 ∷ 0 ∷ []) (nines 2)) 2 16 2 ∷
+    notFilled (reads 2 (1 ∷ 0 ∷ 1 ∷ 0 ∷ []) (nines 1)) 1 16 3 ∷
+    notFilled (reads 2 (1 ∷ 0 ∷ 1 ∷ []) (nines 1)) 1 15 2 ∷ []
+
+-- The replay: what it refuses, and the values that it finds.
+pub replayRows : List Row
+unfolding neighbour selfCopy writeItem popItem copyThenStore storeItem assumeOf storeTo storeOf valueItem orderRow refusedRow
+replayRows =
+    -- f* a write alone: 13 at 1
+    refusedRow selfCopy (0 ∷ 1 ∷ writeItem) 13 1 ∷
+    -- g* popa first: 10 at 0
+    refusedRow selfCopy (0 ∷ 1 ∷ popItem 7 0) 10 0 ∷
+    -- h* write, popb: 10 at 1
+    refusedRow selfCopy (0 ∷ 2 ∷ (writeItem ++ popItem 8 0)) 10 1 ∷
+    -- i* assume of 0: 9 at 0
+    refusedRow (assumeOf 0) (0 ∷ 1 ∷ 3 ∷ 4 ∷ 1 ∷ 0 ∷ []) 9 0 ∷
+    -- j* bar of rank 2 first: 12 at 0
+    refusedRow neighbour (0 ∷ 1 ∷ 3 ∷ 9 ∷ 2 ∷ 2 ∷ []) 12 0 ∷
+    -- k* A = 64: store to cell 63 accepted; to cell 64, the item naming cell 63, gives 8
+    orderRow (storeTo 63) (0 ∷ 1 ∷ storeItem 0 63) (0 ∷ []) (replicate 63 0 ++ 1 ∷ []) ∷
+    refusedRow (storeTo 64) (0 ∷ 1 ∷ storeItem 0 63) 8 0 ∷
+    -- l* 65,535 + 1 gives 0; 0 − 1 gives 65,535
+    orderRow (storeOf (0x10 ∷ 0 ∷ 255 ∷ 255 ∷ 0 ∷ 0 ∷ 1 ∷ [])) (valueItem 0 0) (0 ∷ []) (0 ∷ []) ∷
+    orderRow (storeOf (0x11 ∷ 0 ∷ 0 ∷ 0 ∷ 0 ∷ 0 ∷ 1 ∷ [])) (valueItem 255 255) (0 ∷ []) (65_535 ∷ []) ∷
     -- 7: not from the rank's state; of another kind
     refusedRow neighbour (0 ∷ 1 ∷ 3 ∷ 6 ∷ 1 ∷ 1 ∷ []) 7 0 ∷
     refusedRow neighbour (0 ∷ 1 ∷ 3 ∷ 3 ∷ 1 ∷ 0 ∷ []) 7 0 ∷
@@ -228,11 +223,38 @@ refusals =
     refusedRow neighbour (0 ∷ 1 ∷ 27 ∷ 2 ∷ 1 ∷ 0 ∷ 2 ∷ 0 ∷ 0 ∷ []) 11 0 ∷
     refusedRow (storeOf (0 ∷ 0 ∷ 3 ∷ [])) (valueItem 0 4) 11 0 ∷
     refusedRow selfCopy (0 ∷ 1 ∷ 61 ∷ 7 ∷ 1 ∷ 0 ∷ 1 ∷ 0 ∷ 0 ∷ 0 ∷ 1 ∷ []) 10 0 ∷
+    -- 11: "Fetching at issue and not at popa" would deliver 0 and not the 5 that is stored before the popa
+    refusedRow copyThenStore
+    (0 ∷ 4 ∷ (writeItem ++ (storeItem 1 0 ++ (popItem 7 0 ++ (61 ∷ 8 ∷ 1 ∷ 0 ∷ 1 ∷ 0 ∷ 1 ∷ 0 ∷ 0 ∷ []))))) 11 3 ∷
     -- 12: another item in an open row, before its 10; an open row at the end
     refusedRow neighbour (0 ∷ 4 ∷ (storeItem 0 0 ++ (3 ∷ 6 ∷ 1 ∷ 1 ∷ 3 ∷ 9 ∷ 1 ∷ 2 ∷ popItem 8 1))) 12 3 ∷
     refusedRow neighbour (0 ∷ 3 ∷ (storeItem 0 0 ++ (3 ∷ 6 ∷ 1 ∷ 1 ∷ 3 ∷ 9 ∷ 1 ∷ 2 ∷ []))) 12 3 ∷
-    -- 13: a request is left, or a delivery
+    -- 13: a request is left, or a delivery; "a barrier that empties queues" would leave none
     refusedRow selfCopy (0 ∷ 2 ∷ (writeItem ++ popItem 7 0)) 13 2 ∷
+    refusedRow neighbour
+    (0 ∷ 6 ∷
+    (storeItem 0 0 ++
+    (27 ∷ 2 ∷ 2 ∷ 0 ∷ 2 ∷ 0 ∷ 0 ∷ 3 ∷ 6 ∷ 1 ∷ 1 ∷ 3 ∷ 6 ∷ 2 ∷ 1 ∷ 3 ∷ 9 ∷ 1 ∷ 2 ∷ 3 ∷ 9 ∷ 2 ∷ 2 ∷ []))) 13 6 ∷ []
+
+-- Order, ring and check: the arrows' verdict, what is written where, and the slip and the listing. "Arrows from writes to reads only" would give b an
+-- order.
+pub verdictRows : List Row
+unfolding
+    neighbour noItems lateDelivery selfCopy writeItem popItem twoTransfers overtaking orderRow ringRow entryRow refusedWith listingRow
+    noListingRow filled notFilled nines refusal order0 lateListing refusedLine10 deliveryFirst copyThenStore storeItem
+verdictRows =
+    -- a* no items: an order of no groups (prints `order 0`)
+    orderRow neighbour noItems [] (0 ∷ 0 ∷ 0 ∷ 0 ∷ []) ∷
+    listingRow neighbour noItems (Order 0) order0 ∷
+    -- b* the load before the deliveries: the ring 3 4 5
+    ringRow neighbour lateDelivery 6 (3 ∷ 4 ∷ 5 ∷ []) (1 ∷ 2 ∷ 2 ∷ 1 ∷ []) ∷
+    listingRow neighbour lateDelivery (Ring 3) lateListing ∷
+    -- c* as b with the load last (value 2): order 0 1 2 3 4 5
+    orderRow neighbour deliveryFirst (0 ∷ 1 ∷ 2 ∷ 3 ∷ 4 ∷ 5 ∷ []) (1 ∷ 2 ∷ 2 ∷ 1 ∷ []) ∷
+    -- d* N = 1, a cell copied onto itself: order 0
+    orderRow selfCopy (0 ∷ 3 ∷ (writeItem ++ (popItem 7 0 ++ popItem 8 0))) (0 ∷ []) (0 ∷ []) ∷
+    -- e* N = 1: write from cell 0 to 1, store to cell 0, popa, popb: ring 0 1
+    ringRow copyThenStore (0 ∷ 4 ∷ (writeItem ++ (storeItem 1 0 ++ (popItem 7 0 ++ popItem 8 1)))) 2 (0 ∷ 1 ∷ []) (5 ∷ 5 ∷ []) ∷
     -- 14 for a ring too, and before 15; 15 with all cells, also for no items
     refusedWith 5 4 neighbour lateDelivery 14 6 ∷
     refusedWith 5 3 neighbour lateDelivery 14 6 ∷
@@ -252,29 +274,31 @@ refusals =
     filled (writes neighbour noItems (nines 2)) (0 ∷ []) ∷
     notFilled (writes neighbour (0 ∷ []) (nines 0)) 0 4 1 ∷
     notFilled (writes neighbour lateDelivery (nines 4)) 4 15 5 ∷
-    -- the slip read: 0 for a rank without a bit; 16, then 15
-    filled (reads 3 (5 ∷ 0 ∷ 4 ∷ 4 ∷ 0 ∷ []) (nines 4)) (4 ∷ 0 ∷ 1_024 ∷ []) ∷
-    notFilled (reads 0 (0 ∷ []) (nines 1)) 1 16 0 ∷
-    notFilled (reads 9 (0 ∷ []) (nines 9)) 9 16 0 ∷
-    notFilled (reads 2 [] (nines 2)) 2 16 0 ∷
-    notFilled (reads 2 (4 ∷ 0 ∷ 1 ∷ []) (nines 2)) 2 16 0 ∷
-    notFilled (reads 2 (1 ∷ 0 ∷ 0 ∷ []) (nines 2)) 2 16 1 ∷
-    notFilled (reads 2 (3 ∷ 0 ∷ 1 ∷ 4 ∷ 1 ∷ []) (nines 2)) 2 16 3 ∷
-    notFilled (reads 2 (1 ∷ 0 ∷ []) (nines 2)) 2 16 2 ∷
-    notFilled (reads 2 (1 ∷ 0 ∷ 1 ∷ 0 ∷ []) (nines 1)) 1 16 3 ∷
-    notFilled (reads 2 (1 ∷ 0 ∷ 1 ∷ []) (nines 1)) 1 15 2 ∷ []
+    -- "queue order drawn as an arrow": the ring would leave out the store
+    ringRow twoTransfers overtaking 3 (0 ∷ 1 ∷ 2 ∷ []) (0 ∷ 0 ∷ 1 ∷ 0 ∷ []) ∷ []
 
--- The mistakes that look sound. Fetching at issue: e, where cell 1 would end as 0. No arrow from a read to the next write: b. A barrier that
--- empties queues: b. Queue order as an arrow: here, where the ring would leave out the store.
-mistakes : List Row
-unfolding twoTransfers overtaking ringRow
-mistakes = ringRow twoTransfers overtaking 3 (0 ∷ 1 ∷ 2 ∷ []) (0 ∷ 0 ∷ 1 ∷ 0 ∷ []) ∷ []
+-- The definitions give the answer of each of these rows.
+abbrev pub Answered : List Row → Type 0
+Answered rows = map (λ row. reply (row .question)) rows ≡ map (λ row. row .expected) rows
 
-pub rows : List Row
-unfolding starred refusals mistakes
-rows = starred ++ (refusals ++ mistakes)
+-- A theorem for each section, so that a wrong definition is refused where it is wrong first.
+pub reading-rows : Answered readingRows
+unfolding reply readingRows
+reading-rows = refl
 
--- The definitions give every row's answer.
-pub every-row : map (λ row. reply (row .question)) rows ≡ map (λ row. row .expected) rows
-unfolding reply rows
-every-row = refl
+pub replay-rows : Answered replayRows
+unfolding reply replayRows
+replay-rows = refl
+
+pub verdict-rows : Answered verdictRows
+unfolding reply verdictRows
+verdict-rows = refl
+
+-- And the one of the whole table.
+answered-both : (rows more : List Row) → Answered rows → Answered more → Answered (rows ++ more)
+answered-both rows more h g =
+    map-append (λ (row : Row). reply (row .question)) rows more ∙ ap₂ _++_ h g ∙ sym (map-append (λ (row : Row). row .expected) rows more)
+
+pub every-row : Answered (readingRows ++ (replayRows ++ verdictRows))
+every-row =
+    answered-both readingRows (replayRows ++ verdictRows) reading-rows (answered-both replayRows verdictRows replay-rows verdict-rows)

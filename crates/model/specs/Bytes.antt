@@ -1,13 +1,18 @@
 -- Reading bytes (document 01, the paragraph after the table): a reader starts at a place of the bytes and finds a value and the place after it,
 -- or refuses. "A field is judged as soon as its bytes are read, and a fault is placed at that field's first byte."
-use Prim.Native.Nat.{ℕ, zero, suc, _+_, _*_, _/_, _%_}
+use Prim.Native.Nat.{ℕ, zero, suc, _+_, _*_, _/_, _%_, _<_}
 use mathlib.Core.Bool.{Bool, true, false}
 use mathlib.Core.List.{List, [], _∷_}
 use lib.Dec.{ltb, eqb}
 use lib.ListN.{length, getD}
+use Rattle.model.specs.Limits.{byteValues}
 use Rattle.model.specs.Refusals as Refusals
-use Rattle.model.specs.Refusals.{Result, ok, refuse, require}
+use Rattle.model.specs.Refusals.{Result, ok, refuse}
 use Rattle.model.specs.Choice.{when}
+
+-- What a slice of bytes holds.
+abbrev pub AreBytes : List ℕ → Type 0
+AreBytes bytes = (i : ℕ) → getD bytes i 0 < byteValues
 
 -- What was read, and the place after it.
 pub record Found (A : Type 0) : Type 0 where
@@ -49,11 +54,11 @@ unfolding byte
 word early = do
   high ← byte early
   low ← byte early
-  pure (high * 256 + low)
+  pure (high * byteValues + low)
 
 -- The same, written.
 abbrev pub wordBytes : ℕ → List ℕ
-wordBytes n = n / 256 ∷ n % 256 ∷ []
+wordBytes n = n / byteValues ∷ n % byteValues ∷ []
 
 -- A field that has to pass a test; its fault is placed at its first byte.
 unfoldable pub judged : (ℕ → Bool) → (number : ℕ) → Reader ℕ → Reader ℕ

@@ -1,19 +1,19 @@
 -- The answer (document 01, from "An answer is an order, a ring or a refusal"): the whole check on byte lists and lent lists.
 use Prim.Native.Nat.{ℕ, _*_, _/_}
-use mathlib.Core.Bool.{Bool, true, false}
+use mathlib.Core.Bool.{Bool}
 use mathlib.Core.List.{List, [], _∷_, _++_, map}
 use lib.Dec.{leb, eqb}
 use lib.ListN.{length, drop}
 use Rattle.model.specs.declared.Answer.{Answer}
 use Rattle.model.specs.declared.Answer.the-variants.{Order, Ring, Refused}
 use Rattle.model.specs.declared.Item.{Item}
-use Rattle.model.specs.Refusals.{Result, ok, refused, require, _>>=_, orderTooShort, memoryTooShort}
-use Rattle.model.specs.Choice.{when, numbersFrom}
+use Rattle.model.specs.Refusals.{Result, ok, refused, require, orderTooShort, memoryTooShort, _>>=_}
+use Rattle.model.specs.Choice.{select, numbersFrom}
 use Rattle.model.specs.Bytes.{wordBytes}
 use Rattle.model.specs.Programs.{Program, readProgram}
 use Rattle.model.specs.Records.{readRecord}
-use Rattle.model.specs.Machine.{Start, zeroStart, State}
-use Rattle.model.specs.Replay.{Origin, Event, Replayed, replay}
+use Rattle.model.specs.Machine.{Start, zeroStart}
+use Rattle.model.specs.Replay.{Event, Replayed, replay}
 use Rattle.model.specs.HappensBefore.{edgesOf}
 use Rattle.model.specs.Orders.{Verdict, ordered, cyclic, verdict}
 
@@ -50,16 +50,23 @@ unfoldable pub lastCells : Accepted → List ℕ
 unfolding rankByRank
 lastCells a = rankByRank (a .program .header .ranks) (a .program .header .cells) (a .run .last .machine .cells)
 
+-- The events of a group, in the record's order.
+abbrev pub inGroup : (group : ℕ) → Event → Bool
+inGroup g e = eqb (e .group) g
+
+abbrev pub groupEvents : (group : ℕ) → List Event → List Event
+groupEvents g = select (inGroup g)
+
+-- The events group after group, in an order's order.
+unfoldable pub arranged : List ℕ → List Event → List Event
+unfolding select
+arranged [] events = []
+arranged (g ∷ groups) events = groupEvents g events ++ arranged groups events
+
 -- What an order stands for: "the record's own items, group after group, each group's as command, popa, popb, or as a barrier row", which is how
 -- a record that the replay takes has them.
-unfoldable pub groupItems : (group : ℕ) → List Event → List Item
-groupItems g [] = []
-groupItems g (e ∷ events) = when (eqb (e .group) g) (λ _. e .item ∷ groupItems g events) (λ _. groupItems g events)
-
-unfoldable pub orderItems : List ℕ → List Event → List Item
-unfolding groupItems
-orderItems [] events = []
-orderItems (g ∷ groups) events = groupItems g events ++ orderItems groups events
+abbrev pub orderItems : List ℕ → List Event → List Item
+orderItems groups events = map (λ e. e .item) (arranged groups events)
 
 -- "fill the first entries of a lent .. list"; "Entries beyond are untouched."
 unfoldable pub fill : {A : Type 0} → List A → List A → List A

@@ -3,7 +3,7 @@ use Prim.Native.Nat.{ℕ, _+_, _/_, _%_, _^_}
 use mathlib.Core.Bool.{Bool, true, false, _&&_}
 use mathlib.Core.List.{List, [], _∷_}
 use mathlib.Core.Option.{Option, some, none}
-use lib.Dec.{leb, ltb, eqb}
+use lib.Dec.{leb, eqb}
 
 -- The first where the test passes, the second where it fails. Only that side is computed.
 abbrev pub when {ℓ} : {A : Type ℓ} → Bool → (Unit {0} → A) → (Unit {0} → A) → A
@@ -27,6 +27,11 @@ lookup n (row ∷ rows) = when (eqb n (row .0)) (λ _. some (row .1)) (λ _. loo
 unfoldable pub member : ℕ → List ℕ → Bool
 member n [] = false
 member n (x ∷ xs) = when (eqb n x) (λ _. true) (λ _. member n xs)
+
+-- The members of a list that pass a test, in order.
+unfoldable pub select : {A : Type 0} → (A → Bool) → List A → List A
+select test [] = []
+select test (a ∷ rest) = when (test a) (λ _. a ∷ select test rest) (λ _. select test rest)
 
 -- first, first + 1, .., count numbers in all.
 unfoldable pub numbersFrom : ℕ → ℕ → List ℕ

@@ -6,8 +6,8 @@ use mathlib.Core.Option.{Option, some, none}
 use lib.Dec.{ltb, eqb}
 use Rattle.model.specs.Limits.{maxTokens, wordValues}
 use Rattle.model.specs.Refusals.{programLength, programRange, programForm}
-use Rattle.model.specs.Choice.{when, lookup}
-use Rattle.model.specs.Bytes.{Reader, _>>=_, pure, here, fault, byte, word, judged}
+use Rattle.model.specs.Choice.{lookup}
+use Rattle.model.specs.Bytes.{Reader, pure, here, fault, byte, word, judged, _>>=_}
 
 -- "10 sum, 11 difference, 12 product, 13 equal, 14 less; 10 to 14 take two operands."
 pub data Operator : Type 0 where

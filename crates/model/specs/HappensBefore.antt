@@ -1,29 +1,31 @@
 -- Happens-before between groups (document 001, section 3; document 01: arrows), twice: as the relation that document 01 words, and as the function
 -- that draws it.
-use Prim.Native.Nat.{ℕ, zero, suc, _<_}
+use Prim.Native.Nat.{ℕ, _<_}
 use mathlib.Core.Path.{_≡_}
-use mathlib.Core.Bool.{Bool, true, false, not, _&&_, _||_}
+use mathlib.Core.Bool.{Bool, true, false, _&&_, _||_}
 use mathlib.Core.List.{List, [], _∷_, _++_}
 use mathlib.Core.Logic.{_⊎_}
 use mathlib.Core.Option.{Option, some, none}
 use lib.Dec.{eqb}
 use lib.ListN.{getElem?}
-use Rattle.model.specs.declared.Kind.{Kind}
-use Rattle.model.specs.declared.Item.{Item}
 use Rattle.model.specs.Choice.{when}
+use Rattle.model.specs.ItemKinds.{isCommandKind}
 use Rattle.model.specs.Machine.{Access}
-use Rattle.model.specs.Replay.{Event, Part, command, fetch, delivery, partOf, sameAddress}
+use Rattle.model.specs.Replay.{Event, sameAddress}
+
+abbrev pub isCommand : Event → Bool
+isCommand e = isCommandKind (e .item .kind)
 
 -- "Pops are not in program order."
-abbrev pub isCommand : Event → Bool
-isCommand e = elim (partOf (e .item .kind)) [ command ↦ true | fetch ↦ false | delivery ↦ false ]
+abbrev pub inProgramOrder : Event → Bool
+inProgramOrder e = isCommand e
 
 abbrev pub rankOf : Event → ℕ
 rankOf e = e .item .rank
 
 -- Both are command items of one rank.
 unfoldable pub sameSequence : Event → Event → Bool
-sameSequence x y = isCommand x && isCommand y && eqb (rankOf x) (rankOf y)
+sameSequence x y = inProgramOrder x && inProgramOrder y && eqb (rankOf x) (rankOf y)
 
 abbrev pub sameCell : Access → Access → Bool
 sameCell a b = sameAddress (a .address) (b .address)
@@ -34,11 +36,15 @@ overwrites none y = false
 overwrites (some a) none = false
 overwrites (some a) (some b) = sameCell a b && a .writes
 
--- Both access one cell, and "at least one writes".
+-- "at least one writes"
+abbrev pub eitherWrites : Access → Access → Bool
+eitherWrites a b = a .writes || b .writes
+
+-- Both access one cell, and at least one writes.
 unfoldable pub conflict : Option Access → Option Access → Bool
 conflict none y = false
 conflict (some a) none = false
-conflict (some a) (some b) = sameCell a b && (a .writes || b .writes)
+conflict (some a) (some b) = sameCell a b && eitherWrites a b
 
 -- The event with this number.
 abbrev pub At : List Event → ℕ → Event → Type 0

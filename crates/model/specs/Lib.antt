@@ -3,6 +3,7 @@ pub mod Limits
 pub mod Refusals
 pub mod Choice
 pub mod Bytes
+pub mod ItemKinds
 pub mod Expressions
 pub mod Programs
 pub mod Records
@@ -10,6 +11,7 @@ pub mod Machine
 pub mod Rules
 pub mod Replay
 pub mod HappensBefore
+pub mod Rings
 pub mod Orders
 pub mod Traces
 pub mod Checks

@@ -30,6 +30,10 @@ maxTokens = 15
 abbrev pub maxItems : ℕ
 maxItems = 1_024
 
+-- A byte has so many values.
+abbrev pub byteValues : ℕ
+byteValues = 256
+
 -- "Values are unsigned 16-bit numbers": there are so many of them.
 abbrev pub wordValues : ℕ
 wordValues = 65_536

@@ -1,6 +1,5 @@
 -- The listing (document 01, "Slip and listing"): "Lines end in a line feed, fields in single spaces."
 use Prim.Native.Nat.{ℕ, zero, suc, _+_, _/_, _%_}
-use mathlib.Core.Bool.{Bool, true, false}
 use mathlib.Core.List.{List, [], _∷_, _++_}
 use lib.Dec.{ltb, leb, eqb}
 use lib.ListN.{length}
@@ -11,9 +10,10 @@ use Rattle.model.specs.declared.Kind.the-variants.{Load, Store, Assign, 
 use Rattle.model.specs.declared.Listed.{Listed}
 use Rattle.model.specs.declared.Refusal.{Refusal}
 use Rattle.model.specs.Refusals.{Result, ok, refused, memoryTooShort}
-use Rattle.model.specs.Choice.{when, numbersFrom}
+use Rattle.model.specs.Choice.{when}
+use Rattle.model.specs.ItemKinds.{isBar}
 use Rattle.model.specs.Machine.{zeroStart}
-use Rattle.model.specs.Replay.{Event, isBar}
+use Rattle.model.specs.Replay.{Event}
 use Rattle.model.specs.Orders.{Verdict, ordered, cyclic}
 use Rattle.model.specs.Checks.{Accepted, accept, verdictOn, listed, answered, rankByRank, fill}
 

@@ -1,8 +1,8 @@
 -- The machine (document 001, section 2.3; document 01, "The machine"): its state, and what a command asks for.
-use Prim.Native.Nat.{ℕ, _+_}
+use Prim.Native.Nat.{ℕ}
 use mathlib.Core.Bool.{Bool, true, false, _&&_}
-use mathlib.Core.List.{List, [], _∷_}
-use mathlib.Core.Option.{Option, some, none}
+use mathlib.Core.List.{List, []}
+use mathlib.Core.Option.{Option, some}
 use lib.Dec.{ltb, eqb}
 use Rattle.model.specs.declared.Address.{Address}
 use Rattle.model.specs.Refusals.{Result, ok, require, operandRange, assumeFails, _>>=_}

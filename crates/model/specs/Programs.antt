@@ -1,6 +1,5 @@
 -- Program bytes (document 01): "N, A, R, Q, S, T, one byte each, then T transitions."
-use Prim.Native.Nat.{ℕ, _+_}
-use mathlib.Core.Bool.{Bool, true, false}
+use Prim.Native.Nat.{ℕ, _+_, _≤_}
 use mathlib.Core.List.{List, [], _∷_}
 use mathlib.Core.Option.{Option, some, none}
 use lib.Dec.{ltb, eqb}
@@ -10,7 +9,7 @@ use Rattle.model.specs.declared.Kind.the-variants.{Load, Store, Assign, 
 use Rattle.model.specs.Limits.{maxRanks, maxCells, maxRegisters, maxQueues, maxStates, maxTransitions}
 use Rattle.model.specs.Refusals.{Result, programLength, programRange, programForm}
 use Rattle.model.specs.Choice.{when, between, bit, lookup}
-use Rattle.model.specs.Bytes.{Reader, _>>=_, pure, here, fault, byte, judged, optional, times, whole}
+use Rattle.model.specs.Bytes.{Reader, pure, here, fault, byte, judged, optional, times, whole, _>>=_}
 use Rattle.model.specs.Expressions.{Expression, constant, expression}
 
 -- The command column of document 01's table of kinds.
@@ -65,11 +64,11 @@ readFields registers map = do
   pure (record { register = x; e1 = e1; e2 = e2; e3 = e3; e4 = e4 })
 
 -- A row of the table of kinds: the map, and the command that the fields make.
-pub record Form : Type 0 where
+pub record CommandForm : Type 0 where
   pub map : ℕ
   pub command : Fields → Command
 
-unfoldable pub forms : List (ℕ × Form)
+unfoldable pub forms : List (ℕ × CommandForm)
 forms =
     (1, record { map = 3; command = λ f. load (f .register) (f .e1) }) ∷
     (2, record { map = 6; command = λ f. store (f .e1) (f .e2) }) ∷
@@ -80,7 +79,7 @@ forms =
     (9, record { map = 0; command = λ f. bar }) ∷ []
 
 -- "unknown kind, then map not the kind's": the map stands at `at`, the kind after it.
-unfoldable pub judgedForm : (at map : ℕ) → Option Form → Reader Form
+unfoldable pub judgedForm : (at map : ℕ) → Option CommandForm → Reader CommandForm
 judgedForm at map none = fault programForm (at + 1)
 judgedForm at map (some form) = when (eqb map (form .map)) (λ _. pure form) (λ _. fault programForm at)
 
@@ -121,6 +120,16 @@ readHeader = do
         states = states;
         transitions = transitions;
       })
+
+-- A header with its numbers in these ranges: every one that is read (`header-fits`).
+pub record HeaderFits (h : Header) : Type 0 where
+  pub ranksLow : 1 ≤ h .ranks
+  pub ranksFit : h .ranks ≤ maxRanks
+  pub cellsFit : h .cells ≤ maxCells
+  pub registersFit : h .registers ≤ maxRegisters
+  pub queuesFit : h .queues ≤ maxQueues
+  pub statesFit : h .states ≤ maxStates
+  pub transitionsFit : h .transitions ≤ maxTransitions
 
 unfoldable pub programReader : Reader Program
 unfolding readHeader times readTransition

@@ -1,6 +1,6 @@
 -- Record bytes (document 01): "a two-byte item count, 0..1,024, then the items."
 use Prim.Native.Nat.{ℕ, _+_}
-use mathlib.Core.Bool.{Bool, true, false}
+use mathlib.Core.Bool.{Bool}
 use mathlib.Core.List.{List, [], _∷_}
 use mathlib.Core.Option.{Option, some, none}
 use lib.Dec.{ltb, leb}
@@ -13,7 +13,7 @@ use Rattle.model.specs.declared.Item.{Item}
 use Rattle.model.specs.Limits.{maxItems}
 use Rattle.model.specs.Refusals.{Result, recordLength, recordRange, recordForm}
 use Rattle.model.specs.Choice.{when, between, bit, lookup, member}
-use Rattle.model.specs.Bytes.{Reader, _>>=_, pure, here, fault, byte, word, judged, optional, times, whole}
+use Rattle.model.specs.Bytes.{Reader, pure, here, fault, byte, word, judged, optional, times, whole, _>>=_}
 
 -- A kind of items with its maps.
 pub record ItemForm : Type 0 where
@@ -51,11 +51,9 @@ givenValue = do
   pure (Value value)
 
 -- "An item is a map byte, a kind byte, then the fields whose bit stands, in bit order: 0 rank, 1 transition, 2 queue, 3 place rank, 4 place cell
--- (two bytes), 5 value (two bytes); the others are one byte."
-unfoldable pub readItem : Header → Reader Item
-unfolding byte word judged lookup itemForms judgedItemForm field givenValue
-readItem header = do
-  at ← here
+-- (two bytes), 5 value (two bytes); the others are one byte." Its map stands at `at`.
+abbrev pub itemAt : Header → (at : ℕ) → Reader Item
+itemAt header at = do
   map ← byte recordLength
   kindByte ← byte recordLength
   kind ← judgedItemForm at map (lookup kindByte itemForms)
@@ -74,6 +72,12 @@ readItem header = do
         place = record { rank = placeRank; cell = placeCell };
         given = given;
       })
+
+unfoldable pub readItem : Header → Reader Item
+unfolding byte word judged lookup itemForms judgedItemForm field givenValue
+readItem header = do
+  at ← here
+  itemAt header at
 
 unfoldable pub recordReader : Header → Reader (List Item)
 unfolding word judged times readItem

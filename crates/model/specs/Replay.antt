@@ -1,19 +1,18 @@
 -- The replay (document 01, "Steps of the replay"): items in turn, from any start, each taken or refused in the order "12 first, for pops too, then
 -- 7, 8, 9, 11; a pop has 10 before 11".
 use Prim.Native.Nat.{ℕ, _+_, _-_}
-use mathlib.Core.Bool.{Bool, true, false, not, _&&_}
+use mathlib.Core.Bool.{Bool, true, false, _&&_}
 use mathlib.Core.List.{List, [], _∷_, _++_}
 use mathlib.Core.Option.{Option, some, none}
 use lib.Dec.{ltb, eqb}
 use lib.ListN.{length, getElem?}
 use Rattle.model.specs.declared.Address.{Address}
-use Rattle.model.specs.declared.Kind.{Kind}
-use Rattle.model.specs.declared.Kind.the-variants.{Load, Store, Assign, Assume, Read, Write, Popa, Popb, Bar}
 use Rattle.model.specs.declared.Given.{Given}
 use Rattle.model.specs.declared.Given.the-variants.{Value, Absent}
 use Rattle.model.specs.declared.Item.{Item}
-use Rattle.model.specs.Refusals.{Result, ok, refuse, require, _>>=_, wrongTransition, emptyQueue, accessDiffers, barrierRow, queuesLeft}
+use Rattle.model.specs.Refusals.{Result, ok, refuse, require, wrongTransition, emptyQueue, accessDiffers, barrierRow, queuesLeft, _>>=_}
 use Rattle.model.specs.Choice.{when, numbersFrom}
+use Rattle.model.specs.ItemKinds.{sameKind, isBar, Part, command, fetch, delivery, partOf}
 use Rattle.model.specs.Programs.{Program, Transition, kindOf}
 use Rattle.model.specs.Machine.{State, Request, Delivery, Access, readOf, writeOf, Start, initial, address, cellAt, put, moveTo, setRegister, setCell, setRequests, setDeliveries, Action, loads, stores, assigns, passes, issues, meets, action}
 
@@ -30,47 +29,6 @@ pub record Event : Type 0 where
   pub group : ℕ
   pub queue : ℕ
   pub access : Option Access
-
--- "its part (command, fetch or delivery)"
-pub data Part : Type 0 where
-  command fetch delivery : Part
-
-abbrev pub partOf : Kind → Part
-partOf Load = command
-partOf Store = command
-partOf Assign = command
-partOf Assume = command
-partOf Read = command
-partOf Write = command
-partOf Popa = fetch
-partOf Popb = delivery
-partOf Bar = command
-
-abbrev pub isBar : Kind → Bool
-isBar Load = false
-isBar Store = false
-isBar Assign = false
-isBar Assume = false
-isBar Read = false
-isBar Write = false
-isBar Popa = false
-isBar Popb = false
-isBar Bar = true
-
--- Document 01's number of each kind.
-abbrev pub kindNumber : Kind → ℕ
-kindNumber Load = 1
-kindNumber Store = 2
-kindNumber Assign = 3
-kindNumber Assume = 4
-kindNumber Read = 5
-kindNumber Write = 6
-kindNumber Popa = 7
-kindNumber Popb = 8
-kindNumber Bar = 9
-
-abbrev pub sameKind : Kind → Kind → Bool
-sameKind k l = eqb (kindNumber k) (kindNumber l)
 
 abbrev pub sameAddress : Address → Address → Bool
 sameAddress a b = eqb (a .rank) (b .rank) && eqb (a .cell) (b .cell)
@@ -150,32 +108,46 @@ pub record Taken : Type 0 where
   pub state : Replay
   pub event : Event
 
--- "A command item takes its transition from the rank's state."
-unfoldable pub afterAction : Program → Replay → (at : ℕ) → Item → Transition → Action → Result Taken
-unfolding put moveTo rowAfter groupOf openedAfter agreesWith accessOf queueOf perform
-afterAction P s at i t a = do
-  let origin : Origin = record { place = s .taken (i .rank); group = groupOf (s .opened) i }
-  let access : Option Access = accessOf (i .rank) a (s .machine .cells)
-  _ ← require (agreesWith i access) accessDiffers at
-  ok
-      (record {
-        state =
-            record {
-              machine = moveTo (perform (i .rank) origin a (s .machine)) (i .rank) (t .target);
-              taken = put (s .taken) (i .rank) (s .taken (i .rank) + 1);
-              opened = openedAfter (s .opened) i;
-              row = rowAfter (P .header .ranks) (s .row) i;
-            };
-        event = record { item = i; place = origin .place; group = origin .group; queue = queueOf a; access = access };
-      })
+-- "place or given value differs from the replay": an item is taken if it agrees with the access that the replay finds.
+unfoldable pub agreed : (at : ℕ) → Taken → Result Taken
+unfolding agreesWith
+agreed at taken = do
+  _ ← require (agreesWith (taken .event .item) (taken .event .access)) accessDiffers at
+  ok taken
 
+-- The mark of what a command item puts into a queue.
+abbrev pub originOf : Replay → Item → Origin
+originOf s i = record { place = s .taken (i .rank); group = groupOf (s .opened) i }
+
+-- The state after a command's action, with its rank in the transition's target, and the event.
+abbrev pub afterCommand : Program → Replay → Item → (target : ℕ) → Action → Taken
+afterCommand P s i target a =
+    record {
+      state =
+          record {
+            machine = moveTo (perform (i .rank) (originOf s i) a (s .machine)) (i .rank) target;
+            taken = put (s .taken) (i .rank) (s .taken (i .rank) + 1);
+            opened = openedAfter (s .opened) i;
+            row = rowAfter (P .header .ranks) (s .row) i;
+          };
+      event =
+          record {
+            item = i;
+            place = originOf s i .place;
+            group = originOf s i .group;
+            queue = queueOf a;
+            access = accessOf (i .rank) a (s .machine .cells);
+          };
+    }
+
+-- "A command item takes its transition from the rank's state."
 unfoldable pub takeTransition : Program → Replay → (at : ℕ) → Item → Option Transition → Result Taken
-unfolding kindOf action afterAction
+unfolding put kindOf action moveTo rowAfter groupOf openedAfter accessOf queueOf perform agreed
 takeTransition P s at i none = refuse wrongTransition at
 takeTransition P s at i (some t) = do
   _ ← require (eqb (t .source) (s .machine .control (i .rank)) && sameKind (kindOf (t .command)) (i .kind)) wrongTransition at
   a ← action P (i .rank) (s .machine .registers (i .rank)) at (t .command)
-  afterAction P s at i t a
+  agreed at (afterCommand P s i (t .target) a)
 
 -- Which entry a pop takes: "Each such queue is first in, first out over all remote ranks."
 unfoldable pub oldest : {A : Type 0} → List A → Option (A × List A)
@@ -190,27 +162,36 @@ popped s machine i origin access =
       event = record { item = i; place = origin .place; group = origin .group; queue = i .queue; access = access };
     }
 
+-- What a fetch sends on: "reads the source cell now".
+abbrev pub sentOn : Replay → Request Origin → Delivery Origin
+sentOn s a = record { destination = a .destination; value = cellAt (s .machine .cells) (a .source); mark = a .mark }
+
+-- The state and the event after a fetch of this request, which leaves the rest: "appends destination and value to that queue's deliveries".
+abbrev pub afterFetch : Replay → Item → Request Origin → (rest : List (Request Origin)) → Taken
+afterFetch s i a rest =
+    popped s
+    (setDeliveries (setRequests (s .machine) (i .rank) (i .queue) rest) (i .rank) (i .queue)
+    (s .machine .deliveries (i .rank) (i .queue) ++ sentOn s a ∷ []))
+    i (a .mark) (readOf (a .source) (sentOn s a .value))
+
 -- "popa takes the head request of the named queue, reads the source cell now, and appends destination and value to that queue's deliveries."
 unfoldable pub takeFetch : Replay → (at : ℕ) → Item → Option (Request Origin × List (Request Origin)) → Result Taken
-unfolding agreesWith setRequests setDeliveries
+unfolding setRequests setDeliveries agreed
 takeFetch s at i none = refuse emptyQueue at
-takeFetch s at i (some (a, rest)) = do
-  let value : ℕ = cellAt (s .machine .cells) (a .source)
-  let access : Option Access = readOf (a .source) value
-  _ ← require (agreesWith i access) accessDiffers at
-  let sent : List (Delivery Origin) =
-      s .machine .deliveries (i .rank) (i .queue) ++
-      record { destination = a .destination; value = value; mark = a .mark } ∷ []
-  ok (popped s (setDeliveries (setRequests (s .machine) (i .rank) (i .queue) rest) (i .rank) (i .queue) sent) i (a .mark) access)
+takeFetch s at i (some (a, rest)) = agreed at (afterFetch s i a rest)
+
+-- The state and the event after a delivery of this entry, which leaves the rest.
+abbrev pub afterDelivery : Replay → Item → Delivery Origin → (rest : List (Delivery Origin)) → Taken
+afterDelivery s i b rest =
+    popped s
+    (setCell (setDeliveries (s .machine) (i .rank) (i .queue) rest) (b .destination) (b .value))
+    i (b .mark) (writeOf (b .destination) (b .value))
 
 -- "popb takes the head delivery and writes it."
 unfoldable pub takeDelivery : Replay → (at : ℕ) → Item → Option (Delivery Origin × List (Delivery Origin)) → Result Taken
-unfolding agreesWith setCell setDeliveries
+unfolding setCell setDeliveries agreed
 takeDelivery s at i none = refuse emptyQueue at
-takeDelivery s at i (some (b, rest)) = do
-  let access : Option Access = writeOf (b .destination) (b .value)
-  _ ← require (agreesWith i access) accessDiffers at
-  ok (popped s (setCell (setDeliveries (s .machine) (i .rank) (i .queue) rest) (b .destination) (b .value)) i (b .mark) access)
+takeDelivery s at i (some (b, rest)) = agreed at (afterDelivery s i b rest)
 
 unfoldable pub takePart : Program → Replay → (at : ℕ) → Item → Part → Result Taken
 unfolding takeTransition oldest takeFetch takeDelivery

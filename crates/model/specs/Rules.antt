@@ -2,7 +2,6 @@
 -- read) are written out. The replay has no part in this file.
 use Prim.Native.Nat.{ℕ, _≤_, _<_}
 use mathlib.Core.Path.{_≡_}
-use mathlib.Core.Bool.{Bool, true, false}
 use mathlib.Core.List.{List, [], _∷_, _++_, map}
 use mathlib.Core.Option.{Option, some, none}
 use lib.ListN.{getElem?}
@@ -13,6 +12,7 @@ use Rattle.model.specs.declared.Given.{Given}
 use Rattle.model.specs.declared.Given.the-variants.{Value, Absent}
 use Rattle.model.specs.declared.Item.{Item}
 use Rattle.model.specs.Choice.{when, between, numbersFrom}
+use Rattle.model.specs.ItemKinds.{Part, fetch, delivery, partOf}
 use Rattle.model.specs.Expressions.{Expression}
 use Rattle.model.specs.Programs.{Program, Command}
 use Rattle.model.specs.Machine.{State, Request, Delivery, Access, readOf, writeOf, Start, initial, address, cellAt, valueOf, moveTo, setRegister, setCell, setRequests, setDeliveries}
@@ -57,12 +57,12 @@ module _ (P : Program) where
   abbrev pub eval : Bare → ℕ → Expression → ℕ
   eval s r = valueOf P r (s .registers r)
 
-  -- The operands of a transfer have values in their domains.
-  pub record Operands (s : Bare) (r : ℕ) (e1 e2 e3 e4 : Expression) : Type 0 where
-    pub own : Cell P (eval s r e1)
-    pub rank : Rank P (eval s r e2)
-    pub cell : Cell P (eval s r e3)
-    pub queue : Queue P (eval s r e4)
+  -- The operands of a transfer have values in their domains, by the registers of rank r.
+  pub record Operands (r : ℕ) (registers : ℕ → ℕ) (e1 e2 e3 e4 : Expression) : Type 0 where
+    pub own : Cell P (valueOf P r registers e1)
+    pub rank : Rank P (valueOf P r registers e2)
+    pub cell : Cell P (valueOf P r registers e3)
+    pub queue : Queue P (valueOf P r registers e4)
 
   -- fa[(r, q) := α · (source, destination)]
   abbrev pub ask : Bare → (r q : ℕ) → (source destination : Address) → Bare
@@ -102,11 +102,13 @@ module _ (P : Program) where
         Step s
         (command Assume r t none ∷ [])
         (moveTo s r q₂)
-    read : {s : Bare} {r t q₂ : ℕ} {e₁ e₂ e₃ e₄ : Expression} → Enabled P s r t (Command.read e₁ e₂ e₃ e₄) q₂ → Operands s r e₁ e₂ e₃ e₄ →
+    read : {s : Bare} {r t q₂ : ℕ} {e₁ e₂ e₃ e₄ : Expression} → Enabled P s r t (Command.read e₁ e₂ e₃ e₄) q₂ →
+        Operands r (s .registers r) e₁ e₂ e₃ e₄ →
         Step s
         (command Read r t none ∷ [])
         (ask (moveTo s r q₂) r (eval s r e₄) (address (eval s r e₂) (eval s r e₃)) (address r (eval s r e₁)))
-    write : {s : Bare} {r t q₂ : ℕ} {e₁ e₂ e₃ e₄ : Expression} → Enabled P s r t (Command.write e₁ e₂ e₃ e₄) q₂ → Operands s r e₁ e₂ e₃ e₄ →
+    write : {s : Bare} {r t q₂ : ℕ} {e₁ e₂ e₃ e₄ : Expression} → Enabled P s r t (Command.write e₁ e₂ e₃ e₄) q₂ →
+        Operands r (s .registers r) e₁ e₂ e₃ e₄ →
         Step s
         (command Write r t none ∷ [])
         (ask (moveTo s r q₂) r (eval s r e₄) (address r (eval s r e₁)) (address (eval s r e₂) (eval s r e₃)))
@@ -143,22 +145,16 @@ PlacedAs none i = Unit {0}
 PlacedAs (some a) i = (i .place ≡ a .address) × GivenAs (a .value) (i .given)
 
 -- A command item names its transition, a pop its queue.
-abbrev pub ChosenAs : Label → Kind → Item → Type 0
-ChosenAs l Load i = i .transition ≡ l .transition
-ChosenAs l Store i = i .transition ≡ l .transition
-ChosenAs l Assign i = i .transition ≡ l .transition
-ChosenAs l Assume i = i .transition ≡ l .transition
-ChosenAs l Read i = i .transition ≡ l .transition
-ChosenAs l Write i = i .transition ≡ l .transition
-ChosenAs l Popa i = i .queue ≡ l .queue
-ChosenAs l Popb i = i .queue ≡ l .queue
-ChosenAs l Bar i = i .transition ≡ l .transition
+abbrev pub ChosenAs : Label → Part → Item → Type 0
+ChosenAs l Part.command i = i .transition ≡ l .transition
+ChosenAs l fetch i = i .queue ≡ l .queue
+ChosenAs l delivery i = i .queue ≡ l .queue
 
 -- An item that records an event.
 pub record Recorded (l : Label) (i : Item) : Type 0 where
   pub kind : i .kind ≡ l .kind
   pub rank : i .rank ≡ l .rank
-  pub choice : ChosenAs l (l .kind) i
+  pub choice : ChosenAs l (partOf (l .kind)) i
   pub access : PlacedAs (l .access) i
 
 -- Events and the items that record them, one for one.

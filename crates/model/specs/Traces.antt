@@ -2,30 +2,32 @@
 use Prim.Native.Nat.{ℕ, _<_, _≤_}
 use mathlib.Core.Path.{_≡_}
 use mathlib.Core.Bool.{Bool, true, false, _&&_}
-use mathlib.Core.List.{List, [], _∷_}
+use mathlib.Core.List.{List, [], _∷_, map}
 use mathlib.Core.Logic.{_↔_}
 use mathlib.Core.Option.{Option, some, none}
 use lib.Dec.{eqb}
 use Rattle.model.specs.declared.Address.{Address}
 use Rattle.model.specs.declared.Header.{Header}
 use Rattle.model.specs.declared.Kind.{Kind}
-use Rattle.model.specs.declared.Kind.the-variants.{Load, Store, Assign, Assume, Read, Write, Popa, Popb, Bar}
+use Rattle.model.specs.declared.Kind.the-variants.{Popa, Popb}
 use Rattle.model.specs.declared.Given.{Given}
 use Rattle.model.specs.declared.Given.the-variants.{Value, Absent}
 use Rattle.model.specs.declared.Item.{Item}
 use Rattle.model.specs.Limits.{wordValues}
-use Rattle.model.specs.Refusals.{Result, ok}
-use Rattle.model.specs.Choice.{when}
+use Rattle.model.specs.Refusals.{ok}
+use Rattle.model.specs.Choice.{when, select}
+use Rattle.model.specs.ItemKinds.{sameKind, isTransfer, hasPlace, Part, command, fetch, delivery, partOf}
 use Rattle.model.specs.Programs.{Program}
-use Rattle.model.specs.Machine.{Access, Start}
-use Rattle.model.specs.Replay.{Event, Part, command, fetch, delivery, partOf, sameKind, Replayed, replay}
+use Rattle.model.specs.Machine.{Start}
+use Rattle.model.specs.Replay.{Event, Replayed, replay}
 use Rattle.model.specs.HappensBefore.{At, isCommand, rankOf, conflict}
 
--- The transitions that a rank takes, in order.
-unfoldable pub transitionsOf : (rank : ℕ) → List Event → List ℕ
-transitionsOf rank [] = []
-transitionsOf rank (e ∷ events) =
-    when (isCommand e && eqb (rankOf e) rank) (λ _. e .item .transition ∷ transitionsOf rank events) (λ _. transitionsOf rank events)
+-- The command items of a rank, and the transitions that they take, in order.
+abbrev pub commandOf : (rank : ℕ) → Event → Bool
+commandOf rank e = isCommand e && eqb (rankOf e) rank
+
+abbrev pub transitionsOf : (rank : ℕ) → List Event → List ℕ
+transitionsOf rank events = map (λ e. e .item .transition) (select (commandOf rank) events)
 
 -- "An access is known by its rank, the place of its command in that rank's sequence, and its part (command, fetch or delivery)."
 pub record Identified (x y : Event) : Type 0 where
@@ -71,18 +73,7 @@ pub data Each {A : Type 0} (Holds : A → Type 0) : List A → Type 0 where
   all : Each Holds []
   one : {a : A} {rest : List A} → Holds a → Each Holds rest → Each Holds (a ∷ rest)
 
--- The kinds of items that have a place.
-abbrev pub hasPlace : Kind → Bool
-hasPlace Load = true
-hasPlace Store = true
-hasPlace Assign = false
-hasPlace Assume = false
-hasPlace Read = false
-hasPlace Write = false
-hasPlace Popa = true
-hasPlace Popb = true
-hasPlace Bar = false
-
+-- A command item names a transition of the program, a pop a queue.
 abbrev pub ChosenIn : Header → Part → Item → Type 0
 ChosenIn h command i = i .transition < h .transitions
 ChosenIn h fetch i = i .queue < h .queues
@@ -105,17 +96,6 @@ abbrev pub isPop : Kind → Event → Event → Bool
 isPop kind e p = sameKind (p .item .kind) kind && eqb (rankOf p) (rankOf e) && eqb (p .queue) (e .queue)
 
 -- "Each read or write is followed at once by a popa and then a popb of its rank and queue."
-abbrev pub isTransfer : Kind → Bool
-isTransfer Load = false
-isTransfer Store = false
-isTransfer Assign = false
-isTransfer Assume = false
-isTransfer Read = true
-isTransfer Write = true
-isTransfer Popa = false
-isTransfer Popb = false
-isTransfer Bar = false
-
 unfoldable pub followedAtOnce : Event → List Event → Bool
 followedAtOnce e [] = false
 followedAtOnce e (a ∷ []) = false

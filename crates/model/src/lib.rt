@@ -1,4 +1,45 @@
-// The types that every layer of the checker shares. Their meaning is in specs/.
+// The types and limits that every layer of the checker shares. Their meaning is in specs/; the limits stand there in Limits.antt too, and a proof
+// fails where the two differ. Every number of the formats has sixteen bits here, whether its field has one byte or two.
+pub mod refusals;
+
+// "Ranks 1 to N, N 1..8." What is held per rank has a row for each, rank 1 first.
+pub const RANKS: usize = 8;
+
+pub type Control = [u16; RANKS];
+
+// "Each rank has A cells (1..64), R registers (1..16), Q queues (1..4), all numbered from 0."
+pub const CELLS: usize = 64;
+
+pub type RankCells = [u16; CELLS];
+
+pub type Cells = [RankCells; RANKS];
+
+pub const REGISTERS: usize = 16;
+
+pub type RankRegisters = [u16; REGISTERS];
+
+pub type Registers = [RankRegisters; RANKS];
+
+pub const QUEUES: usize = 4;
+
+// "S control states (1..64), T transitions (0..128), both numbered from 0."
+pub const STATES: usize = 64;
+
+pub const TRANSITIONS: usize = 128;
+
+// Where each transition of a program starts.
+pub type Starts = [usize; TRANSITIONS];
+
+// "Expressions are tokens in prefix form, at most 15 each."
+pub const TOKENS: usize = 15;
+
+// "a two-byte item count, 0..1,024"
+pub const ITEMS: usize = 1024;
+
+// What the drawing of arrows needs of each item, in three numbers: its rank if it is a command and else 0, its group, and its access.
+pub const TOLD: usize = 3;
+
+pub type Trail = [[u16; TOLD]; ITEMS];
 
 // Why an input is refused: a number of document 01's table, and the place that its row asks for.
 pub struct Refusal {
@@ -27,11 +68,11 @@ pub struct Listed {
 
 // The six numbers that a program begins with: N, A, R, Q, S and T.
 pub struct Header {
-    pub ranks: u8,
+    pub ranks: u16,
     pub cells: u16,
-    pub registers: u8,
-    pub queues: u8,
-    pub states: u8,
+    pub registers: u16,
+    pub queues: u16,
+    pub states: u16,
     pub transitions: u16,
 }
 
@@ -50,7 +91,7 @@ pub enum Kind {
 
 // A cell of the global address space: the rank that holds it, and its number there.
 pub struct Address {
-    pub rank: u8,
+    pub rank: u16,
     pub cell: u16,
 }
 
@@ -60,12 +101,13 @@ pub enum Given {
     Absent,
 }
 
-// An item of a record. A field that the item's map leaves out is 0.
+// An item of a record. A field that the item's map leaves out is 0. The kind, one byte, stands last, so that the numbers lie on even places and are
+// copied in whole words.
 pub struct Item {
-    pub kind: Kind,
-    pub rank: u8,
+    pub rank: u16,
     pub transition: u16,
-    pub queue: u8,
+    pub queue: u16,
     pub place: Address,
     pub given: Given,
+    pub kind: Kind,
 }

@@ -12,7 +12,7 @@ use lib.Dec.{eqb}
 use lib.ListN.{getElem?}
 use borrow.Author.Tests.{eqb-true, eqb-false}
 use Rattle.model.specs.HappensBefore.{Edge}
-use Rattle.model.specs.Orders.{lowest, turned, fromLowest}
+use Rattle.model.specs.Rings.{lowest, turned, fromLowest}
 use Rattle.model.proofs.Laws.{decided}
 use Rattle.ordering.proofs.Lists.{_∈_, here, there, Distinct, distinct-last}
 use Rattle.ordering.proofs.Walks.{Closed, closed-turns}

@@ -8,7 +8,7 @@ use lib.Dec.{eqb}
 use borrow.Author.Tests.{eq-eqb, ne-eqb, eqb-true, eqb-false}
 use Rattle.model.specs.Machine.{Access}
 use Rattle.model.specs.Replay.{Event}
-use Rattle.model.specs.HappensBefore.{isCommand, rankOf, sameSequence, sameCell, overwrites, conflict}
+use Rattle.model.specs.HappensBefore.{inProgramOrder, rankOf, sameSequence, sameCell, overwrites, conflict, eitherWrites, isCommand}
 use Rattle.model.proofs.Laws.{decided, and-true, true-and, eqb-refl}
 
 -- Equality of numbers is tested the same either way round.
@@ -16,16 +16,20 @@ eqb-comm : (a b : ℕ) → eqb a b ≡ eqb b a
 eqb-comm a b = decided (eqb a b) (λ t. t ∙ sym (eq-eqb b a (sym (eqb-true a b t)))) (λ t. t ∙ sym (ne-eqb b a (λ e. eqb-false a b t (sym e))))
 
 -- What the test for one rank's sequence says.
-pub sequence-parts : (x y : Event) → sameSequence x y ≡ true → (isCommand x ≡ true) × (isCommand y ≡ true) × (rankOf x ≡ rankOf y)
+pub sequence-parts : (x y : Event) → sameSequence x y ≡ true → (inProgramOrder x ≡ true) × (inProgramOrder y ≡ true) × (rankOf x ≡ rankOf y)
 unfolding sameSequence
 sequence-parts x y h =
-    let ranks = and-true (isCommand x && isCommand y) (eqb (rankOf x) (rankOf y)) h in
-    let commands = and-true (isCommand x) (isCommand y) (ranks .0) in
+    let ranks = and-true (inProgramOrder x && inProgramOrder y) (eqb (rankOf x) (rankOf y)) h in
+    let commands = and-true (inProgramOrder x) (inProgramOrder y) (ranks .0) in
     (commands .0, commands .1, eqb-true (rankOf x) (rankOf y) (ranks .1))
 
-pub sequence-of : (x y : Event) → isCommand x ≡ true → isCommand y ≡ true → rankOf x ≡ rankOf y → sameSequence x y ≡ true
+pub sequence-of : (x y : Event) → inProgramOrder x ≡ true → inProgramOrder y ≡ true → rankOf x ≡ rankOf y → sameSequence x y ≡ true
 unfolding sameSequence
 sequence-of x y p q r = true-and _ _ (true-and _ _ p q) (eq-eqb (rankOf x) (rankOf y) r)
+
+-- A command is in program order.
+pub command-in-order : (e : Event) → isCommand e ≡ true → inProgramOrder e ≡ true
+command-in-order e h = cc
 
 -- Of two events of one rank's sequence, another is in the sequence of the one exactly if it is in that of the other.
 both-true : (a b c u v : Bool) → a ≡ true → b ≡ true → u ≡ v → (c && b && u) ≡ (a && c && v)
@@ -36,7 +40,7 @@ pub sequence-test : (x y : Event) → sameSequence x y ≡ true → (z : Event) 
 unfolding sameSequence
 sequence-test x y h z =
     let parts = sequence-parts x y h in
-    both-true (isCommand x) (isCommand y) (isCommand z) (eqb (rankOf z) (rankOf y)) (eqb (rankOf x) (rankOf z)) (parts .0) (parts .1)
+    both-true (inProgramOrder x) (inProgramOrder y) (inProgramOrder z) (eqb (rankOf z) (rankOf y)) (eqb (rankOf x) (rankOf z)) (parts .0) (parts .1)
     (ap (eqb (rankOf z)) (sym (parts .2)) ∙ eqb-comm (rankOf z) (rankOf x))
 
 -- What the test for one cell says.
@@ -60,7 +64,7 @@ overwrite-test none b h c = absurd (false≢true h)
 overwrite-test (some a) none h c = absurd (false≢true h)
 overwrite-test (some a) (some b) h none = refl
 overwrite-test (some a) (some b) h (some c) =
-    ap (λ (t : Bool). t && c .writes) (cell-test a b (and-true (sameCell a b) (a .writes || b .writes) h .0) c)
+    ap (λ (t : Bool). t && c .writes) (cell-test a b (and-true (sameCell a b) (eitherWrites a b) h .0) c)
 
 -- A choice of tests passes by either.
 or-left : (a b : Bool) → a ≡ true → (a || b) ≡ true
@@ -77,8 +81,8 @@ write-splits none b c h o = absurd (false≢true h)
 write-splits (some a) none c h o = absurd (false≢true h)
 write-splits (some a) (some b) none h o = absurd (false≢true o)
 write-splits (some a) (some b) (some c) h o =
-    let shared : sameCell a b ≡ true = and-true (sameCell a b) (a .writes || b .writes) h .0 in
+    let shared : sameCell a b ≡ true = and-true (sameCell a b) (eitherWrites a b) h .0 in
     let (cell, writes) = and-true (sameCell c a) (c .writes) o in (
-      true-and (sameCell a c) (a .writes || c .writes) (cell-sym c a cell) (or-right (a .writes) (c .writes) writes),
-      true-and (sameCell c b) (c .writes || b .writes) (cell-test a b shared c ∙ cell) (or-left (c .writes) (b .writes) writes),
+      true-and (sameCell a c) (eitherWrites a c) (cell-sym c a cell) (or-right (a .writes) (c .writes) writes),
+      true-and (sameCell c b) (eitherWrites c b) (cell-test a b shared c ∙ cell) (or-left (c .writes) (b .writes) writes),
     )

@@ -3,16 +3,17 @@
 -- suffice, so at the end none of those left can be taken.
 use Prim.Native.Nat.{ℕ, zero, suc, _+_, _≤_}
 use mathlib.Core.Path.{_≡_, refl, sym, ap, _∙_}
-use mathlib.Core.Bool.{true, false, false≢true}
+use mathlib.Core.Bool.{true, false, false≢true, not}
 use mathlib.Core.List.{List, [], _∷_, Memᴰ·cast, List·Memᴰ·not-nil, List·Memᴰ·cases-cons}
 use mathlib.Core.Logic.{_⊎_, inl, inr, ⊎-elim}
 use mathlib.Core.Option.{Option, some, none, Option·none-ne-some, Option·some-injective, Option·some-ne-none}
 use native.Mathlib.Omega.{arith}
 use lib.Dec.{eqb}
 use lib.ListN.{length}
-use borrow.Author.Tests.{eqb-true, eqb-false}
+use borrow.Author.Tests.{eqb-true, eqb-false, eq-eqb, ne-eqb}
 use Rattle.model.specs.HappensBefore.{Edge}
 use Rattle.model.specs.Orders.{hasEdgeInto, firstFree, without, notFrom, Placing, stuck, placeNext, place}
+use Rattle.model.proofs.Selections.{select-keeps, select-within}
 use Rattle.model.proofs.Laws.{decided}
 use Rattle.ordering.proofs.Lists.{_∈_, here, there, Distinct, Precedes, precedes-rest, precedes-later}
 use Rattle.ordering.proofs.Lists.{without-keeps, without-within, without-length, without-distinct, without-gone}
@@ -55,27 +56,12 @@ none-free edges (x ∷ groups) h g m =
 
 -- The edges but those from one group.
 pub notFrom-keeps : (g : ℕ) (edges : List Edge) {e : Edge} → e ∈ edges → ¬ (e .from ≡ g) → e ∈ notFrom g edges
-unfolding notFrom
-notFrom-keeps g [] m n = absurd (List·Memᴰ·not-nil m)
-notFrom-keeps g (d ∷ edges) m n =
-    decided (eqb (d .from) g)
-    (λ t. rw t
-    (⊎-elim
-    (λ s. absurd (n (ap (λ (c : Edge). c .from) s ∙ eqb-true (d .from) g t)))
-    (λ k. notFrom-keeps g edges k n)
-    (List·Memᴰ·cases-cons m)))
-    (λ t. rw t (⊎-elim (λ s. here s) (λ k. there (notFrom-keeps g edges k n)) (List·Memᴰ·cases-cons m)))
+notFrom-keeps g edges {e} m n = select-keeps (λ d. not (eqb (d .from) g)) edges m (ap not (ne-eqb (e .from) g n))
 
 pub notFrom-within : (g : ℕ) (edges : List Edge) {e : Edge} → e ∈ notFrom g edges → (e ∈ edges) × (¬ (e .from ≡ g))
-unfolding notFrom
-notFrom-within g [] m = absurd (List·Memᴰ·not-nil m)
-notFrom-within g (d ∷ edges) m =
-    decided (eqb (d .from) g)
-    (λ t. let r = notFrom-within g edges (rw t at m) in (there (r .0), r .1))
-    (λ t. ⊎-elim
-    (λ s. (here s, λ q. eqb-false (d .from) g t (ap (λ (c : Edge). c .from) (sym s) ∙ q)))
-    (λ k. let r = notFrom-within g edges k in (there (r .0), r .1))
-    (List·Memᴰ·cases-cons (rw t at m)))
+notFrom-within g edges {e} m =
+    let r = select-within (λ d. not (eqb (d .from) g)) edges m in
+    (r .0, λ q. false≢true (ap not (sym (eq-eqb (e .from) g q)) ∙ r .1))
 
 -- What holds where no group can be taken, and of a placing if it holds of what comes after its first group, holds of the whole.
 module _ (P : List ℕ → List Edge → Placing → Type 0)

@@ -15,7 +15,8 @@ use lib.ListN.{length}
 use borrow.Author.Tests.{eqb-true, eqb-false, leb-true, leb-false}
 use Rattle.model.specs.Choice.{member}
 use Rattle.model.specs.HappensBefore.{Edge}
-use Rattle.model.specs.Orders.{hasEdgeInto, firstFree, lower, predecessor, upTo, walkBack}
+use Rattle.model.specs.Orders.{hasEdgeInto, firstFree}
+use Rattle.model.specs.Rings.{lower, predecessor, upTo, walkBack}
 use Rattle.model.proofs.Laws.{decided}
 use Rattle.ordering.proofs.Lists.{_∈_, here, there, member-true, member-false, Distinct, distinct-front, distinct-within}
 use Rattle.ordering.proofs.Edges.{_⟶_}
