@@ -1,15 +1,8 @@
--- The laws that the functions' proofs cite, from the bytes up. `Programs` says what the reader's answer tells of the definition's program, `Layouts`
--- where a transition's parts stand; whoever replays a program cites these two.
-pub mod Results
-pub mod Arithmetic
-pub mod Fields
-pub mod Operands
-pub mod Expressions
-pub mod Tokens
-pub mod Ends
-pub mod Transitions
+-- The laws that the functions' proofs cite, from the fields up. `Programs` says what the reader's answer tells of the definition's program; whoever
+-- replays a program cites it.
+pub mod Pairs
 pub mod Headers
+pub mod TransitionFields
+pub mod Transitions
 pub mod Loops
-pub mod Reading
 pub mod Programs
-pub mod Layouts

@@ -7,18 +7,23 @@ use native.Mathlib.Omega.{arith}
 use native.Mathlib.Numerals.{add-one}
 use lib.ListN.{length, take, drop, set, getD, replicate, length-set, take-append-drop}
 use lib.Seq.{drop-cons, drop-set-lt, take-suc-set, length-take-le}
+use borrow.Author.Tests.{eq-eqb, ne-eqb}
 use Rattle.model.specs.declared.Header.{Header}
 use Rattle.model.specs.declared.Refusal.{Refusal}
 use Rattle.model.specs.Limits.{maxTransitions}
 use Rattle.model.specs.Refusals as Refusals
-use Rattle.model.specs.Refusals.{Result, ok, refused}
-use Rattle.model.specs.Bytes.{Found, Reader, found, times}
-use Rattle.model.specs.Programs.{Transition, readTransition}
-use Rattle.program.specs.declared.transition.End as End
-use Rattle.program.specs.declared.transition.End.{End}
-use Rattle.program.specs.Ends.{endOf}
-use Rattle.program.specs.Starts.{noStarts, padded, startOf, transitionsOf}
-use Rattle.program.proofs.Ends.{end-found, end-refused}
+use Rattle.model.specs.Refusals.{Result, ok, refused, programLength}
+use Rattle.model.specs.Bytes.{Found, found, times}
+use Rattle.model.specs.Programs as Programs
+use Rattle.model.specs.Programs.{readTransition}
+use Rattle.model.proofs.Bytes.{times-more, times-none}
+use Rattle.program.specs.declared.reader.ReadAnswer as ReadAnswer
+use Rattle.program.specs.declared.transition.Transition.{Transition}
+use Rattle.program.specs.declared.transition.TransitionRead as TransitionRead
+use Rattle.program.specs.declared.transition.TransitionRead.{TransitionRead}
+use Rattle.program.specs.Starts.{afterHeader, noStarts, padded, programRead, refusedProgram, startOf}
+use Rattle.program.specs.Transitions.{transitionRead}
+use Rattle.program.proofs.Transitions.{transition-read, transition-refused}
 
 -- What was passed stands before what is found after it.
 abbrev after : List ℕ → Result (Found (List ℕ)) → Result (Found (List ℕ))
@@ -34,7 +39,7 @@ after-one passed a (ok f) = rw append-assoc
 after-one passed a (refused r) = refl
 
 -- One start more.
-pub start-found : (header : Header) (bytes : List ℕ) (at : ℕ) {t : Transition} {n : ℕ} →
+pub start-found : (header : Header) (bytes : List ℕ) (at : ℕ) {t : Programs.Transition} {n : ℕ} →
     readTransition header bytes at ≡ found t n → startOf header bytes at ≡ found at n
 unfolding startOf
 start-found header bytes at h = rw h
@@ -44,30 +49,22 @@ pub start-refused : (header : Header) (bytes : List ℕ) (at : ℕ) {r : Refusal
 unfolding startOf
 start-refused header bytes at h = rw h
 
-pub times-more : {A : Type 0} (n : ℕ) (read : Reader A) (bytes : List ℕ) (at : ℕ) →
-    times (suc n) read bytes at
-    ≡ Refusals._>>=_ (read bytes at) (λ a. Refusals._>>=_ (times n read bytes (a .next)) (λ rest. found (a .value ∷ rest .value) (rest .next)))
-unfolding times
-times-more n read bytes at = refl
-
-pub times-none : {A : Type 0} (read : Reader A) (bytes : List ℕ) (at : ℕ) → times 0 read bytes at ≡ found [] at
-unfolding times
-times-none read bytes at = refl
-
 -- The starts with zeros after them are all the entries.
 filled : (starts : List ℕ) (i : ℕ) → i ≤ length starts → drop i starts ≡ replicate (maxTransitions - i) 0 → padded (take i starts ++ []) ≡ starts
 filled starts i h d = rw (append-nil, length-take-le i starts h, ← d) (take-append-drop i starts)
 
 -- After i turns.
 pub record Passed (header : Header) (bytes : List ℕ) (at : ℕ) (starts : List ℕ) (place i : ℕ) : Type 0 where
+  pub limited : header .transitions ≤ maxTransitions
   pub within : i ≤ header .transitions
   pub sized : length starts ≡ maxTransitions
   pub unset : drop i starts ≡ replicate (maxTransitions - i) 0
   pub same : times (header .transitions) (startOf header) bytes at
       ≡ after (take i starts) (times (header .transitions - i) (startOf header) bytes place)
 
-pub passed-none : (header : Header) (bytes : List ℕ) (at : ℕ) → Passed header bytes at noStarts at 0
-passed-none header bytes at = record {
+pub passed-none : (header : Header) (bytes : List ℕ) (at : ℕ) → header .transitions ≤ maxTransitions → Passed header bytes at noStarts at 0
+passed-none header bytes at limit = record {
+  limited = limit;
   within = omega arith;
   sized = refl;
   unset = refl;
@@ -76,8 +73,7 @@ passed-none header bytes at = record {
       rw e (sym (after-none (times (header .transitions) (startOf header) bytes at)));
 }
 
-module _ {header : Header} {bytes : List ℕ} {at : ℕ} {starts : List ℕ} {place i : ℕ} (p : Passed header bytes at starts place i)
-    (limit : header .transitions ≤ maxTransitions) where
+module _ {header : Header} {bytes : List ℕ} {at : ℕ} {starts : List ℕ} {place i : ℕ} (p : Passed header bytes at starts place i) where
   -- What is left, one transition at a time.
   one-more : i < header .transitions →
       times (header .transitions) (startOf header) bytes at
@@ -97,33 +93,46 @@ module _ {header : Header} {bytes : List ℕ} {at : ℕ} {starts : List ℕ} {pl
       sym (drop-cons starts i 0 s) ∙ rw e at (p .unset) in
       rw (add-one i, drop-set-lt (suc i) starts i place (omega arith)) (cc)
 
-  pub passed-more : i < header .transitions → {x : End} → x ≡ endOf (readTransition header bytes place) →
-      {next : ℕ} → x ≡ End.the-variants.At next → Passed header bytes at (set starts i place) next (i + 1)
-  passed-more h {x} e {next} q =
-      let s : i < length starts = omega (arith, p .sized) in
-      record {
-        within = omega arith;
-        sized = length-set starts i place ∙ p .sized;
-        unset = still-unset h;
-        same =
-            let (t, m) = end-found (readTransition header bytes place) e q in
-            one-more h
-            ∙ rw (
-              start-found header bytes place m,
-              after-one (take i starts) place (times (header .transitions - (i + 1)) (startOf header) bytes next),
-              add-one i,
-              take-suc-set starts i place s,
-            );
-      }
+  -- A turn, for whatever rank and registers.
+  module _ (h : i < header .transitions) (rank : ℕ) (registers : List ℕ) {x : TransitionRead}
+      (e : x ≡ transitionRead header rank registers (readTransition header bytes place)) where
+    pub passed-more : {t : Transition} {next : ℕ} → x ≡ TransitionRead.the-variants.Read t next →
+        Passed header bytes at (set starts i place) next (i + 1)
+    passed-more {t} {next} q =
+        let s : i < length starts = omega (arith, p .sized) in
+        record {
+          limited = p .limited;
+          within = omega arith;
+          sized = length-set starts i place ∙ p .sized;
+          unset = still-unset h;
+          same =
+              let (u, m) = transition-read header rank registers (readTransition header bytes place) e q in
+              one-more h
+              ∙ rw (
+                start-found header bytes place m,
+                after-one (take i starts) place (times (header .transitions - (i + 1)) (startOf header) bytes next),
+                add-one i,
+                take-suc-set starts i place s,
+              );
+        }
 
-  pub passed-refused : i < header .transitions → {x : End} → x ≡ endOf (readTransition header bytes place) →
-      {r : Refusal} → x ≡ End.the-variants.Refused r →
-      record { end = x; starts = noStarts } ≡ transitionsOf (times (header .transitions) (startOf header) bytes at)
-  passed-refused h {x} e q =
-      rw (one-more h, start-refused header bytes place (end-refused (readTransition header bytes place) e q), q)
+    pub passed-refused : {r : Refusal} → x ≡ TransitionRead.the-variants.Refused r →
+        refusedProgram r ≡ programRead (afterHeader header bytes at)
+    unfolding afterHeader programRead
+    passed-refused q =
+        rw (one-more h, start-refused header bytes place (transition-refused header rank registers (readTransition header bytes place) e q))
 
-  pub passed-all : header .transitions ≤ i →
-      record { end = End.the-variants.At place; starts = starts } ≡ transitionsOf (times (header .transitions) (startOf header) bytes at)
-  passed-all h =
-      let z : header .transitions - i ≡ 0 = omega arith in
-      rw (p .same, z, times-none, filled starts i (omega (arith, p .sized, p .within)) (p .unset))
+  -- All turns are taken.
+  module _ (h : header .transitions ≤ i) where
+    all-passed : times (header .transitions) (startOf header) bytes at ≡ found (take i starts ++ []) place
+    all-passed = let z : header .transitions - i ≡ 0 = omega arith in p .same ∙ rw (z, times-none)
+
+    pub left-over : ¬ (place ≡ length bytes) →
+        refusedProgram (record { number = programLength; place = place }) ≡ programRead (afterHeader header bytes at)
+    unfolding afterHeader programRead
+    left-over d = rw (all-passed, ne-eqb place (length bytes) d)
+
+    pub all-read : place ≡ length bytes →
+        record { answer = ReadAnswer.the-variants.Readable header; starts = starts } ≡ programRead (afterHeader header bytes at)
+    unfolding afterHeader programRead
+    all-read d = rw (all-passed, eq-eqb place (length bytes) d, filled starts i (omega (arith, p .sized, p .within)) (p .unset))

@@ -1,158 +1,226 @@
--- A transition, part by part: where it ends is where its last field ends, and the first part that is refused refuses it.
-use Prim.Native.Nat.{ℕ, _/_, _%_}
-use mathlib.Core.Path.{_≡_, ap, sym, _∙_}
+-- A transition, part by part: map and kind, the states, the fields. The first part that is refused refuses it.
+use Prim.Native.Nat.{ℕ}
+use mathlib.Core.Path.{_≡_, refl, ap, subst, sym, _∙_}
+use mathlib.Core.Bool.{true}
 use mathlib.Core.List.{List}
+use mathlib.Core.Option.{Option, some, none, Option·none-ne-some}
 use native.Mathlib.Omega.{arith}
-use lib.Dec.{eqb, ltb}
+use lib.Dec.{eqb}
+use borrow.Author.Tests.{eq-eqb, eqb-true, ne-eqb}
 use Rattle.model.specs.declared.Header.{Header}
 use Rattle.model.specs.declared.Refusal.{Refusal}
-use Rattle.model.specs.Refusals as Refusals
-use Rattle.model.specs.Refusals.{Result, ok, refused, programLength, programRange}
-use Rattle.model.specs.Choice.{bit, lookup}
-use Rattle.model.specs.Bytes.{Found, Reader, found, byte, judged, optional}
-use Rattle.model.specs.Expressions.{Expression, constant, expression}
+use Rattle.model.specs.Refusals.{Result, ok, refused, programLength, programForm}
+use Rattle.model.specs.Choice.{lookup}
+use Rattle.model.specs.Bytes.{Found, found, byte}
 use Rattle.model.specs.Programs as Programs
-use Rattle.model.specs.Programs.{Transition, forms, judgedForm, readFields, readTransition}
-use Rattle.model.proofs.Laws.{ok-injective, refused≢ok}
-use Rattle.program.specs.declared.bytes.Byte as Byte
-use Rattle.program.specs.declared.bytes.Byte.{Byte}
-use Rattle.program.specs.declared.transition.End as End
-use Rattle.program.specs.declared.transition.End.{End}
-use Rattle.program.specs.Fields.{byteField, byteRefusal}
-use Rattle.program.specs.Ends.{endOf, readForm, readMap}
-use Rattle.program.proofs.Results.{bind-cong, bind-assoc}
-use Rattle.program.proofs.Fields.{byte-told}
-use Rattle.program.proofs.Ends.{end-found, end-refused, end-map, map-is}
+use Rattle.model.specs.Programs.{forms, judgedForm, readFields, readTransition}
+use Rattle.model.proofs.Laws.{bind-ok, decided, ok-injective, refused≢ok}
+use Rattle.model.proofs.Bytes.{byte-next}
+use Rattle.fields.specs.declared.Field as Field
+use Rattle.fields.specs.declared.Field.{Field}
+use Rattle.fields.specs.Fields.{fieldOf, fieldRefusal}
+use Rattle.fields.proofs.Fields.{field-told}
+use Rattle.expressions.specs.Values.{numberBelow}
+use Rattle.program.specs.declared.pair.Pair.{Pair}
+use Rattle.program.specs.declared.pair.Pair.the-variants.{Read, Refused}
+use Rattle.program.specs.declared.values.FieldsRead as FieldsRead
+use Rattle.program.specs.declared.values.FieldsRead.{FieldsRead}
+use Rattle.program.specs.declared.values.Values.{Values}
+use Rattle.program.specs.declared.transition.Command.{Command}
+use Rattle.program.specs.declared.transition.Command.the-variants.{Bar}
+use Rattle.program.specs.declared.transition.Form as Form
+use Rattle.program.specs.declared.transition.Form.{Form}
+use Rattle.program.specs.declared.transition.Transition.{Transition}
+use Rattle.program.specs.declared.transition.TransitionRead as TransitionRead
+use Rattle.program.specs.declared.transition.TransitionRead.{TransitionRead}
+use Rattle.program.specs.Pairs.{inTurn, numbersRead, pairRead}
+use Rattle.program.specs.Transitions.{Makes, RestRead, afterForm, commandOf, fieldsRead, optionMap, readForm, transitionRead, valuesOf}
+use Rattle.program.proofs.Pairs.{bind-refused, numbers-found, numbers-refused, pair-found, pair-refused}
 
--- Bit 0, as the code tests it.
-bit-zero : (map : ℕ) → bit 0 map ≡ eqb (map % 2) 1
-bit-zero map = let e : map / 1 ≡ map = omega arith in rw e
+-- The row that a map tells of.
+a-row : (row : Option Programs.CommandForm) {y : Form} {map : ℕ} → optionMap row ≡ y → y ≡ Form.the-variants.Map map →
+    (form : Programs.CommandForm) × (row ≡ some form) × (form .map ≡ map)
+a-row (some form) p q = (form, refl, cc)
+a-row none p q = let z : _≡_ {A = ℕ} 0 1 = cc in absurd (omega arith)
 
--- A field of a transition: the register, and an expression.
-abbrev pub registerField : (registers map : ℕ) → Reader ℕ
-registerField registers map = optional (eqb (map % 2) 1) 0 (judged (λ i. ltb i registers) programRange (byte programLength))
+no-row : (row : Option Programs.CommandForm) {y : Form} → optionMap row ≡ y → y ≡ Form.the-variants.Unknown → row ≡ none
+no-row (some form) p q = cc
+no-row none p q = refl
 
-abbrev pub expressionField : (registers map i : ℕ) → Reader Expression
-expressionField registers map i = optional (bit i map) (constant 0) (expression registers)
+-- Map and kind, as the function goes: each way through it.
+module _ (bytes : List ℕ) (at : ℕ) {x : Field} (p : x ≡ fieldOf (byte programLength bytes at)) where
+  abbrev formRead : Pair
+  formRead = numbersRead (readForm bytes at)
 
-module _ (registers map : ℕ) (bytes : List ℕ) (at : ℕ) {x₀ : End} (p₀ : x₀ ≡ endOf (registerField registers map bytes at)) where
-  pub refused₀ : {r : Refusal} → x₀ ≡ End.the-variants.Refused r → x₀ ≡ endOf (readFields registers map bytes at)
-  unfolding readFields
-  refused₀ q = rw (bit-zero map, end-refused (registerField registers map bytes at) p₀ q) q
+  pub no-map : {r s : Refusal} → x ≡ Field.the-variants.Refused r → s ≡ fieldRefusal x → Refused s ≡ formRead
+  unfolding readForm pairRead
+  no-map q e = rw (e, field-told (byte programLength bytes at) p q, q)
 
-  module _ {e1 : ℕ} (q₀ : x₀ ≡ End.the-variants.At e1) {x₁ : End} (p₁ : x₁ ≡ endOf (expressionField registers map 1 bytes e1)) where
-    pub refused₁ : {r : Refusal} → x₁ ≡ End.the-variants.Refused r → x₁ ≡ endOf (readFields registers map bytes at)
-    unfolding readFields
-    refused₁ q =
-        let (a₀, m₀) = end-found (registerField registers map bytes at) p₀ q₀ in
-        rw (bit-zero map, m₀, end-refused (expressionField registers map 1 bytes e1) p₁ q) q
+  module _ {map place : ℕ} (q : x ≡ Field.the-variants.Read map place) {y : Field} (p₁ : y ≡ fieldOf (byte programLength bytes place)) where
+    pub no-kind : {r s : Refusal} → y ≡ Field.the-variants.Refused r → s ≡ fieldRefusal y → Refused s ≡ formRead
+    unfolding readForm pairRead
+    no-kind q₁ e = rw (e, field-told (byte programLength bytes at) p q, field-told (byte programLength bytes place) p₁ q₁, q₁)
 
-    module _ {e2 : ℕ} (q₁ : x₁ ≡ End.the-variants.At e2) {x₂ : End} (p₂ : x₂ ≡ endOf (expressionField registers map 2 bytes e2)) where
-      pub refused₂ : {r : Refusal} → x₂ ≡ End.the-variants.Refused r → x₂ ≡ endOf (readFields registers map bytes at)
-      unfolding readFields
-      refused₂ q =
-          let (a₀, m₀) = end-found (registerField registers map bytes at) p₀ q₀ in
-          let (a₁, m₁) = end-found (expressionField registers map 1 bytes e1) p₁ q₁ in
-          rw (bit-zero map, m₀, m₁, end-refused (expressionField registers map 2 bytes e2) p₂ q) q
+    module _ {kind next : ℕ} (q₁ : y ≡ Field.the-variants.Read kind next) {z : Form} (p₂ : optionMap (lookup kind forms) ≡ z) where
+      pub unknown-kind : z ≡ Form.the-variants.Unknown → Refused (record { number = programForm; place = place }) ≡ formRead
+      unfolding readForm pairRead
+      unknown-kind q₂ =
+          rw (
+            field-told (byte programLength bytes at) p q,
+            field-told (byte programLength bytes place) p₁ q₁,
+            no-row (lookup kind forms) p₂ q₂,
+            byte-next programLength bytes at (field-told (byte programLength bytes at) p q),
+          )
 
-      module _ {e3 : ℕ} (q₂ : x₂ ≡ End.the-variants.At e3) {x₃ : End} (p₃ : x₃ ≡ endOf (expressionField registers map 3 bytes e3)) where
-        pub refused₃ : {r : Refusal} → x₃ ≡ End.the-variants.Refused r → x₃ ≡ endOf (readFields registers map bytes at)
-        unfolding readFields
-        refused₃ q =
-            let (a₀, m₀) = end-found (registerField registers map bytes at) p₀ q₀ in
-            let (a₁, m₁) = end-found (expressionField registers map 1 bytes e1) p₁ q₁ in
-            let (a₂, m₂) = end-found (expressionField registers map 2 bytes e2) p₂ q₂ in
-            rw (bit-zero map, m₀, m₁, m₂, end-refused (expressionField registers map 3 bytes e3) p₃ q) q
+      module _ {expected : ℕ} (q₂ : z ≡ Form.the-variants.Map expected) where
+        pub other-map : ¬ (map ≡ expected) → Refused (record { number = programForm; place = at }) ≡ formRead
+        unfolding readForm pairRead
+        other-map h =
+            let (row, known, e) = a-row (lookup kind forms) p₂ q₂ in
+            rw (
+              field-told (byte programLength bytes at) p q,
+              field-told (byte programLength bytes place) p₁ q₁,
+              known,
+              e,
+              ne-eqb map expected h,
+            )
 
-        pub fields-end : {e4 : ℕ} → x₃ ≡ End.the-variants.At e4 → {x₄ : End} → x₄ ≡ endOf (expressionField registers map 4 bytes e4) →
-            x₄ ≡ endOf (readFields registers map bytes at)
-        unfolding readFields
-        fields-end {e4} q₃ {x₄} p₄ =
-            let (a₀, m₀) = end-found (registerField registers map bytes at) p₀ q₀ in
-            let (a₁, m₁) = end-found (expressionField registers map 1 bytes e1) p₁ q₁ in
-            let (a₂, m₂) = end-found (expressionField registers map 2 bytes e2) p₂ q₂ in
-            let (a₃, m₃) = end-found (expressionField registers map 3 bytes e3) p₃ q₃ in
-            rw (bit-zero map, m₀, m₁, m₂, m₃)
-            (p₄ ∙ sym (end-map (expressionField registers map 4 bytes e4)
-            (λ a₄. record { register = a₀; e1 = a₁; e2 = a₂; e3 = a₃; e4 = a₄ })))
+        pub form-fits : map ≡ expected → Read map kind next ≡ formRead
+        unfolding readForm pairRead
+        form-fits h =
+            let (row, known, e) = a-row (lookup kind forms) p₂ q₂ in
+            rw (
+              field-told (byte programLength bytes at) p q,
+              field-told (byte programLength bytes place) p₁ q₁,
+              known,
+              e,
+              eq-eqb map expected h,
+            )
 
--- A state of a transition.
-abbrev pub stateField : (states : ℕ) → Reader ℕ
-stateField states = judged (λ q. ltb q states) programRange (byte programLength)
+-- The command of a kind whose row is known, and that of every other kind that has a row: a bar.
+module _ (header : Header) (rank : ℕ) (registers : List ℕ) {kind : ℕ} {form : Programs.CommandForm} (fields : Programs.Fields)
+    (known : lookup kind forms ≡ some form) where
+  pub by-row : (k : ℕ) {row : Programs.CommandForm} {command : Command} → kind ≡ k → lookup k forms ≡ some row →
+      command ≡ commandOf header rank registers (row .command fields) → command ≡ commandOf header rank registers (form .command fields)
+  by-row k {row} e r h = let d : row ≡ form = cc in rw (← d) h
 
--- What follows map and kind.
-abbrev pub afterForm : Header → (map : ℕ) → Programs.Form → Reader Transition
-afterForm header map form bytes at =
-    Refusals._>>=_ (stateField (header .states) bytes at)
-    (λ source. Refusals._>>=_ (stateField (header .states) bytes (source .next))
-    (λ target. Refusals._>>=_ (readFields (header .registers) map bytes (target .next))
-    (λ fields. found (record { source = source .value; target = target .value; command = form .command (fields .value) }) (fields .next))))
+  pub bar-else : ¬ (kind ≡ 1) → ¬ (kind ≡ 2) → ¬ (kind ≡ 3) → ¬ (kind ≡ 4) → ¬ (kind ≡ 5) → ¬ (kind ≡ 6) →
+      Bar ≡ commandOf header rank registers (form .command fields)
+  unfolding lookup forms
+  bar-else n₁ n₂ n₃ n₄ n₅ n₆ =
+      let left = simp (ne-eqb kind 1 n₁, ne-eqb kind 2 n₂, ne-eqb kind 3 n₃, ne-eqb kind 4 n₄, ne-eqb kind 5 n₅, ne-eqb kind 6 n₆) at known in
+      decided (eqb kind 9) (λ t. by-row 9 (eqb-true kind 9 t) refl refl) (λ t. absurd (Option·none-ne-some _ (rw t at left)))
 
--- The map alone tells whether map and kind were found.
-form-refused : (m : Result (Found (ℕ × Programs.Form))) {r : Refusal} →
-    Refusals._>>=_ m (λ f. found (f .value .0) (f .next)) ≡ refused r → m ≡ refused r
-form-refused (ok f) h = cc
-form-refused (refused r) h = cc
+-- What the answers tell: of map and kind, the kind's row, whose map it is; of the fields, fields with these values.
+judged-form : (at map : ℕ) (row : Option Programs.CommandForm) (bytes : List ℕ) (n : ℕ) {f : Found Programs.CommandForm} →
+    judgedForm at map row bytes n ≡ ok f →
+    (row ≡ some (f .value)) × (eqb map (f .value .map) ≡ true) × (f .next ≡ n)
+unfolding judgedForm
+judged-form at map none bytes n h = absurd (refused≢ok h)
+judged-form at map (some form) bytes n h =
+    decided (eqb map (form .map))
+    (λ t.
+    let same = ok-injective (rw t at h) in
+    rw (← ap (λ (f : Found Programs.CommandForm). f .value) same, ← ap (λ (f : Found Programs.CommandForm). f .next) same) (refl, t, refl))
+    (λ t. absurd (refused≢ok (rw t at h)))
 
-a-form : (m : Result (Found (ℕ × Programs.Form))) {map n : ℕ} →
-    Refusals._>>=_ m (λ f. found (f .value .0) (f .next)) ≡ found map n → (form : Programs.Form) × (m ≡ found (map, form) n)
-a-form (ok f) {map} {n} h =
-    let e : map ≡ f .value .0 = ap (λ (g : Found ℕ). g .value) (ok-injective (sym h)) in
-    let d : n ≡ f .next = ap (λ (g : Found ℕ). g .next) (ok-injective (sym h)) in
-    (f .value .1, rw (e, d))
-a-form (refused r) h = absurd (refused≢ok h)
+record FormFound (bytes : List ℕ) (at map kind next : ℕ) : Type 0 where
+  middle : ℕ
+  form : Programs.CommandForm
+  map-read : byte programLength bytes at ≡ found map middle
+  kind-read : byte programLength bytes middle ≡ found kind next
+  known : lookup kind forms ≡ some form
+  fits : eqb map (form .map) ≡ true
 
-module _ (header : Header) (bytes : List ℕ) (at : ℕ) where
-  pub transition-is : readTransition header bytes at
-      ≡ Refusals._>>=_ (readForm bytes at) (λ f. afterForm header (f .value .0) (f .value .1) bytes (f .next))
-  unfolding readTransition readForm
-  transition-is =
-      sym (bind-assoc (byte programLength bytes at) _ _
-      ∙ bind-cong (byte programLength bytes at) _ _
-      (λ map p. bind-assoc (byte programLength bytes (map .next)) _ _
-      ∙ bind-cong (byte programLength bytes (map .next)) _ _
-      (λ kind q. bind-assoc (judgedForm at (map .value) (lookup (kind .value) forms) bytes (kind .next)) _ _)))
+form-found : (bytes : List ℕ) (at : ℕ) {map kind next : ℕ} → readForm bytes at ≡ found (map, kind) next → FormFound bytes at map kind next
+unfolding readForm
+form-found bytes at h =
+    let (m, p, h₁) = bind-ok (byte programLength bytes at) _ h in
+    let (k, q, h₂) = bind-ok (byte programLength bytes (m .next)) _ h₁ in
+    let (f, j, h₃) = bind-ok (judgedForm at (m .value) (lookup (k .value) forms) bytes (k .next)) _ h₂ in
+    let (known, fits, e) = judged-form at (m .value) (lookup (k .value) forms) bytes (k .next) j in
+    subst (λ (r : Found (ℕ × ℕ)). FormFound bytes at (r .value .0) (r .value .1) (r .next)) (ok-injective h₃)
+    (record {
+      middle = m .next;
+      form = f .value;
+      map-read = p;
+      kind-read = q ∙ ap (λ (n : ℕ). found (k .value) n) (sym e);
+      known = known;
+      fits = fits;
+    })
 
-  module _ {x : Byte} (p : x ≡ byteField (readMap bytes at)) where
-    pub map-refused : {r : Refusal} → x ≡ Byte.the-variants.Refused r →
-        End.the-variants.Refused (byteRefusal x) ≡ endOf (readTransition header bytes at)
-    map-refused q =
-        rw (q, transition-is, form-refused (readForm bytes at) (sym (map-is bytes at) ∙ byte-told (readMap bytes at) p q))
+fields-found : (header : Header) (rank : ℕ) (registers : List ℕ) (m : Result (Found Programs.Fields)) {x : FieldsRead} {v : Values} {n : ℕ} →
+    x ≡ fieldsRead header rank registers m → x ≡ FieldsRead.the-variants.Read v n →
+    (f : Programs.Fields) × (m ≡ found f n) × (v ≡ valuesOf header rank registers f)
+unfolding fieldsRead
+fields-found header rank registers (ok f) {x} {v} {n} p q =
+    let e : v ≡ valuesOf header rank registers (f .value) = cc in
+    let d : n ≡ f .next = cc in
+    (f .value, rw d, e)
+fields-found header rank registers (refused r) p q = let z : _≡_ {A = ℕ} 0 1 = cc in absurd (omega arith)
 
-    module _ {map from : ℕ} (q : x ≡ Byte.the-variants.Read map from) where
-      pub form-found : (form : Programs.Form) × (readForm bytes at ≡ found (map, form) from)
-      form-found = a-form (readForm bytes at) (sym (map-is bytes at) ∙ byte-told (readMap bytes at) p q)
+fields-refused : (header : Header) (rank : ℕ) (registers : List ℕ) (m : Result (Found Programs.Fields)) {x : FieldsRead} {r : Refusal} →
+    x ≡ fieldsRead header rank registers m → x ≡ FieldsRead.the-variants.Refused r → m ≡ refused r
+unfolding fieldsRead
+fields-refused header rank registers (ok f) p q = cc
+fields-refused header rank registers (refused r) p q = cc
 
-      module _ {y : Byte} (p₁ : y ≡ byteField (stateField (header .states) bytes from)) where
-        pub source-refused : {r : Refusal} → y ≡ Byte.the-variants.Refused r →
-            End.the-variants.Refused (byteRefusal y) ≡ endOf (readTransition header bytes at)
-        source-refused q₁ =
-            let (form, m) = form-found in
-            rw (transition-is, m, q₁, byte-told (stateField (header .states) bytes from) p₁ q₁)
+-- What follows map and kind: each way through the function.
+module _ {header : Header} {rank : ℕ} {registers : List ℕ} {map kind : ℕ} {bytes : List ℕ} {at : ℕ} {y : Pair}
+    (p : y ≡ numbersRead (inTurn (numberBelow (header .states)) (numberBelow (header .states)) bytes at)) where
+  pub no-states : {r : Refusal} → y ≡ Refused r → RestRead header rank registers map kind bytes at (TransitionRead.the-variants.Refused r)
+  unfolding afterForm
+  no-states q = record { for-row = λ form known. numbers-refused _ _ _ _ p q (λ h. rw h) (λ s h k. rw (h, k)) }
 
-        module _ {v to : ℕ} (q₁ : y ≡ Byte.the-variants.Read v to)
-            {z : Byte} (p₂ : z ≡ byteField (stateField (header .states) bytes to)) where
-          pub target-refused : {r : Refusal} → z ≡ Byte.the-variants.Refused r →
-              End.the-variants.Refused (byteRefusal z) ≡ endOf (readTransition header bytes at)
-          target-refused q₂ =
-              let (form, m) = form-found in
-              rw (
-                transition-is,
-                m,
-                byte-told (stateField (header .states) bytes from) p₁ q₁,
-                q₂,
-                byte-told (stateField (header .states) bytes to) p₂ q₂,
-              )
+  module _ {source target b : ℕ} (q : y ≡ Read source target b) {z : FieldsRead}
+      (p₁ : z ≡ fieldsRead header rank registers (readFields (header .registers) map bytes b)) where
+    pub no-fields : {r : Refusal} → z ≡ FieldsRead.the-variants.Refused r →
+        RestRead header rank registers map kind bytes at (TransitionRead.the-variants.Refused r)
+    unfolding afterForm
+    no-fields q₁ = record {
+      for-row = λ form known.
+          let (m, s, t) = numbers-found _ _ _ _ p q in
+          rw (s, t, fields-refused header rank registers (readFields (header .registers) map bytes b) p₁ q₁);
+    }
 
-          pub transition-ends : {w fields : ℕ} → z ≡ Byte.the-variants.Read w fields →
-              {e : End} → e ≡ endOf (readFields (header .registers) map bytes fields) → e ≡ endOf (readTransition header bytes at)
-          transition-ends {w} {fields} q₂ p₃ =
-              let (form, m) = form-found in
-              rw (
-                transition-is,
-                m,
-                byte-told (stateField (header .states) bytes from) p₁ q₁,
-                byte-told (stateField (header .states) bytes to) p₂ q₂,
-              )
-              (p₃ ∙ sym (end-map (readFields (header .registers) map bytes fields)
-              (λ f. record { source = v; target = w; command = form .command f })))
+    pub rest-found : {values : Values} {n : ℕ} {command : Command} → z ≡ FieldsRead.the-variants.Read values n → Makes kind values command →
+        RestRead header rank registers map kind bytes at
+        (TransitionRead.the-variants.Read (record { source = source; target = target; command = command }) n)
+    unfolding afterForm
+    rest-found q₁ made = record {
+      for-row = λ form known.
+          let (m, s, t) = numbers-found _ _ _ _ p q in
+          let (fs, h, e) = fields-found header rank registers (readFields (header .registers) map bytes b) p₁ q₁ in
+          rw (s, t, h, made header rank registers form fs known e);
+    }
+
+-- The whole transition.
+module _ (header : Header) (rank : ℕ) (registers bytes : List ℕ) (at : ℕ) {x : Pair} (p : x ≡ numbersRead (readForm bytes at)) where
+  pub no-form : {r : Refusal} → x ≡ Refused r →
+      TransitionRead.the-variants.Refused r ≡ transitionRead header rank registers (readTransition header bytes at)
+  unfolding readForm readTransition
+  no-form q =
+      bind-refused (byte programLength bytes at) _ (pair-refused _ _ (readForm bytes at) p q) (λ h. rw h)
+      (λ m h h₁. bind-refused (byte programLength bytes (m .next)) _ h₁ (λ k. rw (h, k))
+      (λ k h′ h₂. bind-refused (judgedForm at (m .value) (lookup (k .value) forms) bytes (k .next)) _ h₂ (λ j. rw (h, h′, j))
+      (λ f j h₃. absurd (refused≢ok (sym h₃)))))
+
+  pub form-then : {map kind a : ℕ} {y : TransitionRead} → x ≡ Read map kind a → RestRead header rank registers map kind bytes a y →
+      y ≡ transitionRead header rank registers (readTransition header bytes at)
+  unfolding readTransition afterForm
+  form-then {map} {kind} {a} q rest =
+      let (m, k, h, e, e′) = pair-found (λ n. n) (λ n. n) (readForm bytes at) p q in
+      let f : FormFound bytes at map kind a = form-found bytes at (h ∙ rw (e, e′)) in
+      rw (f .map-read, f .kind-read, f .known, f .fits) (rest .for-row (f .form) (f .known))
+
+-- What a transition's answer tells of the definition's reader: a transition that ends there, or the refusal.
+module _ (header : Header) (rank : ℕ) (registers : List ℕ) where
+  pub transition-read : (m : Result (Found Programs.Transition)) {x : TransitionRead} {t : Transition} {n : ℕ} →
+      x ≡ transitionRead header rank registers m → x ≡ TransitionRead.the-variants.Read t n → (s : Programs.Transition) × (m ≡ found s n)
+  transition-read (ok f) {x} {t} {n} p q = let d : n ≡ f .next = cc in (f .value, rw d)
+  transition-read (refused r) p q = let z : _≡_ {A = ℕ} 0 1 = cc in absurd (omega arith)
+
+  pub transition-refused : (m : Result (Found Programs.Transition)) {x : TransitionRead} {r : Refusal} →
+      x ≡ transitionRead header rank registers m → x ≡ TransitionRead.the-variants.Refused r → m ≡ refused r
+  transition-refused (ok f) p q = cc
+  transition-refused (refused r) p q = cc

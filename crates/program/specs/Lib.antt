@@ -1,5 +1,4 @@
--- What the reader's answers are, by the definitions of `model`: fields, expressions, transitions, programs.
-pub mod Fields
-pub mod Values
-pub mod Ends
+-- What the readers answer, by the definitions of `model`: pairs of fields, transitions, programs.
+pub mod Pairs
+pub mod Transitions
 pub mod Starts

@@ -1,30 +1,27 @@
 -- The program reader with the starts of the transitions in the place of the transitions: `programReader`, whose transitions give where they begin.
 use Prim.Native.Nat.{ℕ, _-_}
+use mathlib.Core.Path.{_≡_}
 use mathlib.Core.List.{List, _++_}
+use lib.Dec.{eqb}
 use lib.ListN.{length, replicate}
 use Rattle.model.specs.declared.Header.{Header}
 use Rattle.model.specs.declared.Refusal.{Refusal}
 use Rattle.model.specs.Limits.{maxTransitions}
-use Rattle.model.specs.Refusals.{Result, ok, refused, programLength}
+use Rattle.model.specs.Refusals as Refusals
+use Rattle.model.specs.Refusals.{Result, ok, refused, refuse, programLength}
+use Rattle.model.specs.Choice.{when}
 use Rattle.model.specs.Bytes.{Found, Reader, _>>=_, pure, here, times, whole}
-use Rattle.model.specs.Programs.{Program, readHeader, readTransition}
+use Rattle.model.specs.Programs.{Program, readHeader, readProgram, readTransition}
 use Rattle.program.specs.declared.header.HeaderRead as HeaderRead
 use Rattle.program.specs.declared.header.HeaderRead.{HeaderRead}
-use Rattle.program.specs.declared.transition.End as End
 use Rattle.program.specs.declared.reader.ReadAnswer as ReadAnswer
 use Rattle.program.specs.declared.reader.ReadAnswer.{ReadAnswer}
 use Rattle.program.specs.declared.reader.ProgramRead.{ProgramRead}
-use Rattle.program.specs.declared.reader.Transitions.{Transitions}
 
 -- A header's answer.
-abbrev pub headerRead : Result (Found Header) → HeaderRead
+unfoldable pub headerRead : Result (Found Header) → HeaderRead
 headerRead (ok f) = HeaderRead.the-variants.Read (f .value) (f .next)
 headerRead (refused r) = HeaderRead.the-variants.Refused r
-
--- The refusal in an answer; none is the number 0, which no row of the table has.
-abbrev pub headerRefusal : HeaderRead → Refusal
-headerRefusal (HeaderRead.the-variants.Read header next) = record { number = 0; place = next }
-headerRefusal (HeaderRead.the-variants.Refused r) = r
 
 -- Reads a transition, and gives where it starts.
 unfoldable pub startOf : Header → Reader ℕ
@@ -51,17 +48,21 @@ unfoldable pub readStarts : List ℕ → Result Starts
 unfolding whole startsReader
 readStarts = whole programLength startsReader
 
+-- What follows the header has to reach the last byte.
+abbrev pub reach : {A B : Type 0} → (bytes : List ℕ) → (A → B) → Result (Found A) → Result B
+reach bytes make m =
+    Refusals._>>=_ m (λ f. when (eqb (f .next) (length bytes)) (λ _. ok (make (f .value))) (λ _. refuse programLength (f .next)))
+
+unfoldable pub afterHeader : Header → (bytes : List ℕ) → (at : ℕ) → Result Starts
+afterHeader header bytes at =
+    reach bytes (λ starts. record { header = header; starts = starts }) (times (header .transitions) (startOf header) bytes at)
+
 -- Entries without a transition are 0.
 abbrev pub noStarts : List ℕ
 noStarts = replicate maxTransitions 0
 
 abbrev pub padded : List ℕ → List ℕ
 padded starts = starts ++ replicate (maxTransitions - length starts) 0
-
--- What reading the transitions answers: where they end, and where they start.
-abbrev pub transitionsOf : Result (Found (List ℕ)) → Transitions
-transitionsOf (ok f) = record { end = End.the-variants.At (f .next); starts = padded (f .value) }
-transitionsOf (refused r) = record { end = End.the-variants.Refused r; starts = noStarts }
 
 -- The reader's answer, by the definition's program.
 abbrev pub readAnswer : Result Program → ReadAnswer
@@ -77,6 +78,11 @@ entries (refused r) = noStarts
 abbrev pub refusedProgram : Refusal → ProgramRead
 refusedProgram r = record { answer = ReadAnswer.the-variants.Refused r; starts = noStarts }
 
-abbrev pub programRead : Result Starts → ProgramRead
-programRead (ok f) = record { answer = ReadAnswer.the-variants.Readable (f .header); starts = padded (f .starts) }
+unfoldable pub programRead : Result Starts → ProgramRead
+programRead (ok s) = record { answer = ReadAnswer.the-variants.Readable (s .header); starts = padded (s .starts) }
 programRead (refused r) = refusedProgram r
+
+-- What reading a program promises: the definition's header or refusal, and where the definition's transitions start.
+pub record Answers (bytes : List ℕ) (read : ProgramRead) : Type 0 where
+  pub answer : read .answer ≡ readAnswer (readProgram bytes)
+  pub starts : read .starts ≡ entries (readStarts bytes)

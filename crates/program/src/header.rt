@@ -1,28 +1,23 @@
 // The header: "N, A, R, Q, S, T, one byte each".
-use crate::bytes::Byte;
-use crate::bytes::read_byte;
-use crate::refusals::PROGRAM_LENGTH;
-use crate::refusals::PROGRAM_RANGE;
+use crate::pair::Pair;
+use fields::Field;
+use fields::read_byte;
+use fields::within;
+use model::CELLS;
 use model::Header;
+use model::QUEUES;
+use model::RANKS;
+use model::REGISTERS;
 use model::Refusal;
+use model::STATES;
+use model::TRANSITIONS;
+use model::refusals::PROGRAM_LENGTH;
+use model::refusals::PROGRAM_RANGE;
 ghost use mathlib.Core.Path.{_≡_};
 ghost use Rattle.model.specs.Programs.{headerNumber, readHeader};
-ghost use Rattle.program.specs.Fields.{byteField};
-ghost use Rattle.program.specs.Starts.{headerRead, headerRefusal};
-
-// "Ranks 1 to N, N 1..8. Each rank has A cells (1..64), R registers (1..16), Q queues (1..4)": what a program may ask for.
-const MAX_RANKS: u8 = 8;
-
-const MAX_CELLS: u8 = 64;
-
-const MAX_REGISTERS: u8 = 16;
-
-const MAX_QUEUES: u8 = 4;
-
-// "S control states (1..64), T transitions (0..128)"
-const MAX_STATES: u8 = 64;
-
-const MAX_TRANSITIONS: u8 = 128;
+ghost use Rattle.fields.specs.Fields.{fieldOf};
+ghost use Rattle.program.specs.Pairs.{inTurn, numbersRead};
+ghost use Rattle.program.specs.Starts.{headerRead};
 
 // A header and the place after it, or the refusal.
 pub enum HeaderRead {
@@ -30,75 +25,63 @@ pub enum HeaderRead {
     Refused(Refusal),
 }
 
-impl HeaderRead {
-    // The refusal; the number 0 where there is none.
-    pub fn refusal(self) -> Refusal
-        ensures { λ r. ⌜ r ≡ headerRefusal self ⌝ }
-    {
-        match self {
-            HeaderRead::Refused(refusal) => refusal,
-            HeaderRead::Read(_, next) => Refusal {
-                number: 0,
-                place: next,
-            },
-        }
-    }
+// A header number, which has to be within its range.
+fn header_number(bytes: &[u8], at: usize, low: u16, high: u16) -> Field
+    ensures { λ r. ⌜ r ≡ fieldOf (headerNumber low high (now (bytes .entry)) at) ⌝ }
+{
+    within(
+        read_byte(bytes, at, PROGRAM_LENGTH),
+        at,
+        low,
+        high,
+        PROGRAM_RANGE,
+    )
 }
 
-// A header number, which has to be within its range.
-fn header_number(bytes: &[u8], at: usize, low: u8, high: u8) -> Byte
-    ensures { λ r. ⌜ r ≡ byteField (headerNumber low high (now (bytes .entry)) at) ⌝ }
+// Two header numbers: the first is at least 1 and at most `first`, the second at least `low` and at most `second`.
+fn two_numbers(bytes: &[u8], at: usize, first: u16, low: u16, second: u16) -> Pair
+    ensures { λ r. ⌜ r ≡ numbersRead (inTurn (headerNumber 1 first) (headerNumber low second) (now (bytes .entry)) at) ⌝ }
 {
-    let read = read_byte(bytes, at, PROGRAM_LENGTH);
-    let Byte::Read(value, _) = read else {
-        return read;
+    let one = header_number(bytes, at, 1, first);
+    let Field::Read(a, middle) = one else {
+        return Pair::Refused(one.refusal());
     };
-    if low <= value {
-        if value <= high {
-            return read;
-        }
-    }
-    Byte::Refused(Refusal {
-        number: PROGRAM_RANGE,
-        place: at,
-    })
+    let other = header_number(bytes, middle, low, second);
+    let Field::Read(b, next) = other else {
+        return Pair::Refused(other.refusal());
+    };
+    Pair::Read(a, b, next)
 }
 
 // The six numbers, each judged before the next is read.
 pub fn read_header(bytes: &[u8]) -> HeaderRead
     ensures { λ r. ⌜ r ≡ headerRead (readHeader (now (bytes .entry)) 0) ⌝ }
 {
-    let n = header_number(bytes, 0, 1, MAX_RANKS);
-    let Byte::Read(ranks, at_cells) = n else {
-        return HeaderRead::Refused(n.refusal());
-    };
-    let a = header_number(bytes, at_cells, 1, MAX_CELLS);
-    let Byte::Read(cells, at_registers) = a else {
-        return HeaderRead::Refused(a.refusal());
-    };
-    let r = header_number(bytes, at_registers, 1, MAX_REGISTERS);
-    let Byte::Read(registers, at_queues) = r else {
-        return HeaderRead::Refused(r.refusal());
-    };
-    let q = header_number(bytes, at_queues, 1, MAX_QUEUES);
-    let Byte::Read(queues, at_states) = q else {
-        return HeaderRead::Refused(q.refusal());
-    };
-    let s = header_number(bytes, at_states, 1, MAX_STATES);
-    let Byte::Read(states, at_transitions) = s else {
-        return HeaderRead::Refused(s.refusal());
-    };
-    let t = header_number(bytes, at_transitions, 0, MAX_TRANSITIONS);
-    let Byte::Read(transitions, next) = t else {
-        return HeaderRead::Refused(t.refusal());
-    };
-    let header = Header {
-        ranks,
-        cells: cells as u16,
-        registers,
-        queues,
-        states,
-        transitions: transitions as u16,
-    };
-    HeaderRead::Read(header, next)
+    let machine = two_numbers(bytes, 0, RANKS as u16, 1, CELLS as u16);
+    match machine {
+        Pair::Refused(refusal) => HeaderRead::Refused(refusal),
+        Pair::Read(ranks, cells, at) => {
+            let held = two_numbers(bytes, at, REGISTERS as u16, 1, QUEUES as u16);
+            match held {
+                Pair::Refused(refusal) => HeaderRead::Refused(refusal),
+                Pair::Read(registers, queues, at) => {
+                    let control = two_numbers(bytes, at, STATES as u16, 0, TRANSITIONS as u16);
+                    match control {
+                        Pair::Refused(refusal) => HeaderRead::Refused(refusal),
+                        Pair::Read(states, transitions, next) => HeaderRead::Read(
+                            Header {
+                                ranks,
+                                cells,
+                                registers,
+                                queues,
+                                states,
+                                transitions,
+                            },
+                            next,
+                        ),
+                    }
+                }
+            }
+        }
+    }
 }

@@ -1,8 +1,7 @@
-// Reading a program: its header, where each transition starts, and the value of an expression at a known place. Every function equals its
-// definition in `model`, on every byte string.
-pub mod bytes;
-pub mod expression;
+// Reading a program: its header, where each transition starts, and a transition with the values of its expressions in a rank. Every function equals
+// its definition in `model`, on every byte string.
 pub mod header;
+mod pair;
 pub mod reader;
-pub mod refusals;
 pub mod transition;
+mod values;

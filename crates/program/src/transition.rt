@@ -1,50 +1,63 @@
-// Transitions: "a map byte, a kind byte, a from state, a to state, then only the fields whose map bit stands, in bit order". Reading one finds where
-// it ends.
-use crate::bytes::Byte;
-use crate::bytes::Word;
-use crate::bytes::read_below;
-use crate::bytes::read_byte;
-use crate::expression::evaluate;
-use crate::refusals::PROGRAM_FORM;
-use crate::refusals::PROGRAM_LENGTH;
+// Transitions: "a map byte, a kind byte, a from state, a to state, then only the fields whose map bit stands, in bit order". One is read with the
+// values of its expressions in a rank; the program's reader drops them.
+use crate::pair::Pair;
+use crate::values::FieldsRead;
+use crate::values::Values;
+use crate::values::read_fields;
+use expressions::read_below;
+use fields::Field;
+use fields::read_byte;
 use model::Header;
+use model::RankRegisters;
 use model::Refusal;
+use model::refusals::PROGRAM_FORM;
+use model::refusals::PROGRAM_LENGTH;
 ghost use mathlib.Core.Path.{_≡_};
-ghost use lib.Dec.{ltb};
-ghost use Rattle.model.specs.Refusals.{programLength, programRange};
 ghost use Rattle.model.specs.Choice.{lookup};
-ghost use Rattle.model.specs.Bytes.{byte, judged, optional};
-ghost use Rattle.model.specs.Expressions.{constant, expression};
-ghost use Rattle.model.specs.Programs.{forms, readFields, readTransition};
-ghost use Rattle.program.specs.Fields.{byteField};
-ghost use Rattle.program.specs.Ends.{endOf, endRefusal, optionMap, readMap};
+ghost use Rattle.model.specs.Programs.{forms, readTransition};
+ghost use Rattle.expressions.specs.Values.{numberBelow};
+ghost use Rattle.program.specs.Pairs.{inTurn, numbersRead};
+ghost use Rattle.program.specs.Transitions.{optionMap, readForm, Makes, RestRead, transferOperands, transitionRead};
 
-// The place after what was read, or the refusal.
-pub enum End {
-    At(usize),
-    Refused(Refusal),
+// The values of e1 to e4 of a transfer: "e1 own cell, e2 remote rank, e3 remote cell, e4 queue". None is judged yet.
+pub struct Operands {
+    pub own: u16,
+    pub rank: u16,
+    pub cell: u16,
+    pub queue: u16,
 }
 
-impl End {
-    // The refusal; the number 0 where there is none.
-    pub fn refusal(self) -> Refusal
-        ensures { λ r. ⌜ r ≡ endRefusal self ⌝ }
-    {
-        match self {
-            End::Refused(refusal) => refusal,
-            End::At(place) => Refusal { number: 0, place },
-        }
-    }
+// The command column of document 01's table of kinds, with a value in the place of each expression.
+pub enum Command {
+    Load { register: u16, cell: u16 },
+    Store { cell: u16, value: u16 },
+    Assign { register: u16, value: u16 },
+    Assume { value: u16 },
+    Read { operands: Operands },
+    Write { operands: Operands },
+    Bar,
+}
+
+pub struct Transition {
+    pub source: u16,
+    pub target: u16,
+    pub command: Command,
+}
+
+// A transition and the place after it, or the refusal.
+pub enum TransitionRead {
+    Read { transition: Transition, next: usize },
+    Refused(Refusal),
 }
 
 // The map that the transitions of a kind have.
 enum Form {
-    Map(u8),
+    Map(u16),
     Unknown,
 }
 
 // The table of kinds, with the map of each. The pops are no kinds of transitions.
-fn form_of(kind: u8) -> Form
+fn form_of(kind: u16) -> Form
     ensures { λ r. ⌜ optionMap (lookup kind forms) ≡ r ⌝ }
 {
     match kind {
@@ -60,100 +73,134 @@ fn form_of(kind: u8) -> Form
 }
 
 // Map and kind: both are read before either is judged, the kind first.
-fn read_map(bytes: &[u8], at: usize) -> Byte
-    ensures { λ r. ⌜ r ≡ byteField (readMap (now (bytes .entry)) at) ⌝ }
+fn read_form(bytes: &[u8], at: usize) -> Pair
+    ensures { λ r. ⌜ r ≡ numbersRead (readForm (now (bytes .entry)) at) ⌝ }
 {
     let first = read_byte(bytes, at, PROGRAM_LENGTH);
-    let Byte::Read(map, place) = first else {
-        return first;
+    let Field::Read(map, place) = first else {
+        return Pair::Refused(first.refusal());
     };
     let second = read_byte(bytes, place, PROGRAM_LENGTH);
-    let Byte::Read(kind, next) = second else {
-        return second;
+    let Field::Read(kind, next) = second else {
+        return Pair::Refused(second.refusal());
     };
     let form = form_of(kind);
     let Form::Map(expected) = form else {
-        return Byte::Refused(Refusal {
+        return Pair::Refused(Refusal {
             number: PROGRAM_FORM,
             place,
         });
     };
     if map == expected {
-        Byte::Read(map, next)
+        Pair::Read(map, kind, next)
     } else {
-        Byte::Refused(Refusal {
+        Pair::Refused(Refusal {
             number: PROGRAM_FORM,
             place: at,
         })
     }
 }
 
-// The register of a transition, if its map bit stands.
-fn skip_register(bytes: &[u8], at: usize, stands: bool, registers: u8) -> End
-    ensures { λ r. ⌜ r ≡ endOf (optional stands 0 (judged (λ i. ltb i registers) programRange (byte programLength)) (now (bytes .entry)) at) ⌝ }
+// "a from state, a to state"
+fn read_states(bytes: &[u8], at: usize, states: u16) -> Pair
+    ensures { λ r. ⌜ r ≡ numbersRead (inTurn (numberBelow states) (numberBelow states) (now (bytes .entry)) at) ⌝ }
 {
-    if !stands {
-        return End::At(at);
+    let from = read_below(bytes, at, states);
+    let Field::Read(source, middle) = from else {
+        return Pair::Refused(from.refusal());
+    };
+    let to = read_below(bytes, middle, states);
+    let Field::Read(target, next) = to else {
+        return Pair::Refused(to.refusal());
+    };
+    Pair::Read(source, target, next)
+}
+
+// The values of a transfer's expressions.
+fn operands_of(values: Values) -> Operands
+    ensures { λ r. ⌜ r ≡ transferOperands values ⌝ }
+{
+    Operands {
+        own: values.e1,
+        rank: values.e2,
+        cell: values.e3,
+        queue: values.e4,
     }
-    let read = read_below(bytes, at, registers);
-    let Byte::Read(_, next) = read else {
-        return End::Refused(read.refusal());
-    };
-    End::At(next)
 }
 
-// An expression of a transition, if its map bit stands. Its value is dropped: no register matters to where it ends.
-fn skip_expression(bytes: &[u8], at: usize, stands: bool, header: Header) -> End
-    ensures { λ r. ⌜ r ≡ endOf (optional stands (constant 0) (expression (header .registers)) (now (bytes .entry)) at) ⌝ }
+// The command that a kind makes of its fields.
+fn command_of(kind: u16, values: Values) -> Command
+    ensures { λ r. ⌜ Makes kind values r ⌝ }
 {
-    if !stands {
-        return End::At(at);
+    match kind {
+        1 => Command::Load {
+            register: values.register,
+            cell: values.e1,
+        },
+        2 => Command::Store {
+            cell: values.e1,
+            value: values.e2,
+        },
+        3 => Command::Assign {
+            register: values.register,
+            value: values.e1,
+        },
+        4 => Command::Assume { value: values.e1 },
+        5 => Command::Read {
+            operands: operands_of(values),
+        },
+        6 => Command::Write {
+            operands: operands_of(values),
+        },
+        _ => Command::Bar,
     }
-    let read = evaluate(bytes, at, header, 0, [0; 16]);
-    let Word::Read(_, next) = read else {
-        return End::Refused(read.refusal());
-    };
-    End::At(next)
 }
 
-// "the fields whose map bit stands, in bit order: bit 0 a register (one byte); bits 1 to 4 expressions e1 to e4"
-fn skip_fields(bytes: &[u8], at: usize, map: u8, header: Header) -> End
-    ensures { λ r. ⌜ r ≡ endOf (readFields (header .registers) map (now (bytes .entry)) at) ⌝ }
+// What follows map and kind: the states, and the fields that the map has.
+fn read_rest(
+    bytes: &[u8],
+    at: usize,
+    map: u16,
+    kind: u16,
+    header: Header,
+    rank: u16,
+    registers: RankRegisters,
+) -> TransitionRead
+    ensures { λ r. ⌜ RestRead header rank registers map kind (now (bytes .entry)) at r ⌝ }
 {
-    let register = skip_register(bytes, at, map % 2 == 1, header.registers);
-    let End::At(e1) = register else {
-        return register;
-    };
-    let first = skip_expression(bytes, e1, map / 2 % 2 == 1, header);
-    let End::At(e2) = first else {
-        return first;
-    };
-    let second = skip_expression(bytes, e2, map / 4 % 2 == 1, header);
-    let End::At(e3) = second else {
-        return second;
-    };
-    let third = skip_expression(bytes, e3, map / 8 % 2 == 1, header);
-    let End::At(e4) = third else {
-        return third;
-    };
-    skip_expression(bytes, e4, map / 16 % 2 == 1, header)
+    let states = read_states(bytes, at, header.states);
+    match states {
+        Pair::Refused(refusal) => TransitionRead::Refused(refusal),
+        Pair::Read(source, target, at) => {
+            let fields = read_fields(bytes, at, map, header, rank, registers);
+            match fields {
+                FieldsRead::Refused(refusal) => TransitionRead::Refused(refusal),
+                FieldsRead::Read(values, next) => TransitionRead::Read {
+                    transition: Transition {
+                        source,
+                        target,
+                        command: command_of(kind, values),
+                    },
+                    next,
+                },
+            }
+        }
+    }
 }
 
-// Where the transition at a place ends.
-pub fn skip_transition(bytes: &[u8], at: usize, header: Header) -> End
-    ensures { λ r. ⌜ r ≡ endOf (readTransition header (now (bytes .entry)) at) ⌝ }
+// The transition at a place, with the values of its expressions in a rank with these registers.
+pub fn read_transition(
+    bytes: &[u8],
+    at: usize,
+    header: Header,
+    rank: u16,
+    registers: RankRegisters,
+) -> TransitionRead
+    ensures { λ r. ⌜ r ≡ transitionRead header rank registers (readTransition header (now (bytes .entry)) at) ⌝ }
 {
-    let form = read_map(bytes, at);
-    let Byte::Read(map, from) = form else {
-        return End::Refused(form.refusal());
-    };
-    let source = read_below(bytes, from, header.states);
-    let Byte::Read(_, to) = source else {
-        return End::Refused(source.refusal());
-    };
-    let target = read_below(bytes, to, header.states);
-    let Byte::Read(_, fields) = target else {
-        return End::Refused(target.refusal());
-    };
-    skip_fields(bytes, fields, map, header)
+    let form = read_form(bytes, at);
+    match form {
+        Pair::Refused(refusal) => TransitionRead::Refused(refusal),
+        Pair::Read(map, kind, at) => read_rest(bytes, at, map, kind, header, rank, registers),
+    }
 }

@@ -1,9 +1,9 @@
 -- The verdict on a map and a kind is read off the kind's row of the table: a kind without a row is unknown, and a map is right if the row lists it.
--- The code's cases, the definition's judgement and the bits of a right map all go through the row.
+-- The code's cases and the definition's judgement both go through the row.
 use Prim.Native.Nat.{ℕ, _+_}
 use mathlib.Core.Path.{_≡_, refl}
 use mathlib.Core.Bool.{true, false}
-use mathlib.Core.List.{[], _∷_}
+use mathlib.Core.List.{List, [], _∷_}
 use mathlib.Core.Logic.{_⊎_, inl, inr}
 use mathlib.Core.Option.{Option, some, none}
 use lib.Dec.{eqb}
@@ -18,32 +18,33 @@ use Rattle.record.specs.declared.form.Form.{Form}
 use Rattle.record.specs.declared.form.Form.the-variants.{Known, UnknownKind, WrongMap}
 use Rattle.record.specs.Forms.{formIn, itemForm}
 
--- A map is one of the maps, or none of them.
-pub among-one : (map a : ℕ) → map ≡ a → member map (a ∷ []) ≡ true
-unfolding member
-among-one map a p = rw (eq-eqb map a p)
+-- A map is one of some, as an arm of a `match` says it.
+abbrev pub Among : (map : ℕ) → List ℕ → Type 0
+Among map [] = ⊥
+Among map (a ∷ []) = map ≡ a
+Among map (a ∷ b ∷ maps) = (map ≡ a) ⊎ Among map (b ∷ maps)
 
-pub not-among-one : (map a : ℕ) → (map ≡ a → ⊥) → member map (a ∷ []) ≡ false
+among : (map : ℕ) (maps : List ℕ) → Among map maps → member map maps ≡ true
 unfolding member
-not-among-one map a n = rw (ne-eqb map a n)
+among map [] h = absurd h
+among map (a ∷ []) h = rw (eq-eqb map a h)
+among map (a ∷ b ∷ maps) (inl h) = rw (eq-eqb map a h)
+among map (a ∷ b ∷ maps) (inr h) = decided (eqb map a) (λ t. rw t) (λ t. rw t (among map (b ∷ maps) h))
 
-pub among-two : (map a b : ℕ) → (map ≡ a) ⊎ (map ≡ b) → member map (a ∷ b ∷ []) ≡ true
+not-among : (map : ℕ) (maps : List ℕ) → (Among map maps → ⊥) → member map maps ≡ false
 unfolding member
-among-two map a b (inl p) = rw (eq-eqb map a p)
-among-two map a b (inr p) = decided (eqb map a) (λ t. rw t) (λ t. rw (t, eq-eqb map b p))
-
-pub not-among-two : (map a b : ℕ) → ((map ≡ a) ⊎ (map ≡ b) → ⊥) → member map (a ∷ b ∷ []) ≡ false
-unfolding member
-not-among-two map a b n = rw (ne-eqb map a (λ p. n (inl p)), ne-eqb map b (λ p. n (inr p)))
+not-among map [] n = refl
+not-among map (a ∷ []) n = rw (ne-eqb map a n)
+not-among map (a ∷ b ∷ maps) n = rw (ne-eqb map a (λ p. n (inl p))) (not-among map (b ∷ maps) (λ h. n (inr h)))
 
 -- The verdict by a row: right if the row lists the map.
-pub listed : (map : ℕ) (form : ItemForm) → member map (form .maps) ≡ true → Known (form .kind) ≡ formIn map (some form)
+pub listed : (map : ℕ) (form : ItemForm) → Among map (form .maps) → Known (form .kind) ≡ formIn map (some form)
 unfolding formIn
-listed map form h = rw h
+listed map form h = rw (among map (form .maps) h)
 
-pub unlisted : (map : ℕ) (form : ItemForm) → member map (form .maps) ≡ false → WrongMap ≡ formIn map (some form)
+pub unlisted : (map : ℕ) (form : ItemForm) → (Among map (form .maps) → ⊥) → WrongMap ≡ formIn map (some form)
 unfolding formIn
-unlisted map form h = rw h
+unlisted map form n = rw (not-among map (form .maps) n)
 
 -- The verdict on a kind is that by its row.
 pub by-row : (map kind number : ℕ) (row : Option ItemForm) {verdict : Form} → lookup number itemForms ≡ row → kind ≡ number →

@@ -1,42 +1,93 @@
--- The definition's item reader taken apart: a map byte and a kind byte, the verdict on both, and then the fields by parts. Where a field is refused,
--- so is the item; where it is found, the item goes on after it.
+-- The definition's item reader is its parts one after the other: a map byte and a kind byte, the verdict on both, and then the fields.
 use Prim.Native.Nat.{ℕ}
 use mathlib.Core.Path.{_≡_, refl}
+use mathlib.Core.Bool.{Bool, true, false}
 use mathlib.Core.List.{List}
-use Rattle.model.specs.declared.Given.the-variants.{Value}
+use Rattle.model.specs.declared.Given.the-variants.{Absent}
 use Rattle.model.specs.declared.Header.{Header}
 use Rattle.model.specs.declared.Item.{Item}
+use Rattle.model.specs.declared.Kind.{Kind}
 use Rattle.model.specs.declared.Refusal.{Refusal}
-use Rattle.model.specs.Refusals.{Result, ok, refused, recordLength}
-use Rattle.model.specs.Bytes.{Found, found, _>>=_, pure, byte, word}
-use Rattle.model.specs.Choice.{lookup}
-use Rattle.model.specs.Records.{itemForms, judgedItemForm, givenValue, readItem}
+use Rattle.model.specs.Refusals.{Result, ok, refused, recordLength, recordForm}
+use Rattle.model.specs.Choice.{bit, lookup}
+use Rattle.model.specs.Bytes.{Found, Reader, found, pure, byte, word, optional}
+use Rattle.model.specs.Records.{itemForms, judgedItemForm, field, givenValue, readItem}
+use Rattle.model.proofs.Laws.{bind-assoc, told}
+use Rattle.model.proofs.Bytes.{byte-next}
+use Rattle.fields.specs.declared.Field as Field
+use Rattle.fields.specs.declared.Field.{Field}
+use Rattle.fields.specs.Fields.{fieldOf, _>>=_}
+use Rattle.fields.proofs.Fields.{field-told, field-goes-on}
+use Rattle.record.specs.declared.form.Form.{Form}
+use Rattle.record.specs.declared.form.Form.the-variants.{Known, UnknownKind, WrongMap}
 use Rattle.record.specs.declared.item.ItemRead as ItemRead
 use Rattle.record.specs.declared.item.ItemRead.{ItemRead}
-use Rattle.record.specs.Fields.{optionalByte, optionalWord}
-use Rattle.record.specs.Items.{itemRead, readStep, readPlace, readValue}
+use Rattle.record.specs.Forms.{itemForm}
+use Rattle.record.specs.Optional.{rankField, numberField, cellField, valueField}
+use Rattle.record.specs.Items.{bare, given, withGiven, itemRead, readActor, readQueue, readPlace, readGiven}
+use Rattle.record.proofs.Forms.{judgedForm, judged-is}
+
+-- What follows map and kind, which stand at `at`.
+abbrev judgedItem : Header → (at map kind : ℕ) → Reader Item
+judgedItem header at map kind = judgedItemForm at map (lookup kind itemForms) >>= (λ k. readActor header map (bare k))
 
 pub readItem-is : (header : Header) (bytes : List ℕ) (at : ℕ) →
-    readItem header bytes at
-    ≡ (byte recordLength >>= (λ map. byte recordLength >>= (λ kind. judgedItemForm at map (lookup kind itemForms) >>= readStep header map))) bytes at
-unfolding readItem readStep readPlace readValue optionalByte optionalWord
+    readItem header bytes at ≡ (byte recordLength >>= (λ map. byte recordLength >>= judgedItem header at map)) bytes at
+unfolding readItem field _>>=_ rankField numberField cellField readActor readQueue readPlace readGiven
 readItem-is header bytes at = refl
 
--- The value is a word.
-pub givenValue-is : givenValue ≡ (word recordLength >>= (λ v. pure (Value v)))
-unfolding givenValue
-givenValue-is = refl
+-- Behind map and kind the verdict on both decides.
+module _ (header : Header) (bytes : List ℕ) (at : ℕ) {first second : Field} {map kindAt kind next : ℕ}
+    (p : first ≡ fieldOf (byte recordLength bytes at)) (q : first ≡ Field.the-variants.Read map kindAt)
+    (p₂ : second ≡ fieldOf (byte recordLength bytes kindAt)) (q₂ : second ≡ Field.the-variants.Read kind next)
+    {form : Form} (f : form ≡ itemForm map kind) where
+  by-form : {verdict : Form} {answer : ItemRead} → form ≡ verdict →
+      answer ≡ itemRead ((judgedForm at verdict >>= (λ k. readActor header map (bare k))) bytes next) →
+      answer ≡ itemRead (readItem header bytes at)
+  by-form v d =
+      rw readItem-is
+      (field-goes-on itemRead _ _ _ _ p q (field-goes-on itemRead _ _ _ _ p₂ q₂ (rw (judged-is at map kind, ← f, v) d)))
+
+  pub form-known : {k : Kind} {answer : ItemRead} → form ≡ Known k → answer ≡ itemRead (readActor header map (bare k) bytes next) →
+      answer ≡ itemRead (readItem header bytes at)
+  unfolding _>>=_
+  form-known v d = by-form v d
+
+  pub kind-unknown : form ≡ UnknownKind →
+      ItemRead.the-variants.Refused (record { number = recordForm; place = kindAt }) ≡ itemRead (readItem header bytes at)
+  unfolding _>>=_
+  kind-unknown v = rw (byte-next recordLength bytes at (field-told (byte recordLength bytes at) p q)) (by-form v refl)
+
+  pub map-wrong : form ≡ WrongMap → ItemRead.the-variants.Refused (record { number = recordForm; place = at }) ≡ itemRead (readItem header bytes at)
+  unfolding _>>=_
+  map-wrong v = by-form v refl
+
+-- A value is a word where its bit stands.
+given-is : (present : Bool) (item : Item) (bytes : List ℕ) (at : ℕ) →
+    (optional present Absent givenValue >>= (λ g. pure (withGiven item g))) bytes at
+    ≡ (valueField present >>= (λ v. pure (withGiven item (given present v)))) bytes at
+unfolding _>>=_ valueField givenValue
+given-is true item bytes at = bind-assoc (word recordLength bytes at) _ _
+given-is false item bytes at = refl
+
+pub readGiven-is : (map : ℕ) (item : Item) (bytes : List ℕ) (at : ℕ) →
+    readGiven map item bytes at ≡ (valueField (bit 5 map) >>= (λ v. pure (withGiven item (given (bit 5 map) v)))) bytes at
+unfolding readGiven
+readGiven-is map item bytes at = given-is (bit 5 map) item bytes at
 
 -- An item that was read, and one that was not.
+abbrev resultOf : ItemRead → Result (Found Item)
+resultOf (ItemRead.the-variants.Read item next) = found item next
+resultOf (ItemRead.the-variants.Refused r) = refused r
+
+back : (m : Result (Found Item)) → resultOf (itemRead m) ≡ m
+back (ok f) = refl
+back (refused r) = refl
+
 pub item-found : (m : Result (Found Item)) {a : ItemRead} {i : Item} {n : ℕ} →
     a ≡ itemRead m → a ≡ ItemRead.the-variants.Read i n → m ≡ found i n
-item-found (ok f) {a} {i} {n} p q =
-    let e : i ≡ f .value = cc in
-    let d : n ≡ f .next = cc in
-    rw (e, d)
-item-found (refused r) p q = cc
+item-found m p q = told itemRead resultOf back m p q
 
 pub item-refused : (m : Result (Found Item)) {a : ItemRead} {r : Refusal} →
     a ≡ itemRead m → a ≡ ItemRead.the-variants.Refused r → m ≡ refused r
-item-refused (ok f) p q = cc
-item-refused (refused r) p q = cc
+item-refused m p q = told itemRead resultOf back m p q

@@ -1,7 +1,4 @@
 -- The laws behind the readers' proofs, and those that the replay cites of a record that was read.
 pub mod Forms
-pub mod Optional
-pub mod Read
 pub mod Items
 pub mod Places
-pub mod Ranges

@@ -1,60 +1,74 @@
--- An item's fields in three parts, each of which ends with the rest of the item: who does what (rank, transition, queue), the place, the value.
+-- The definition's item reader by parts of one or two fields: each reads its fields into the item and goes on with the next part.
 use Prim.Native.Nat.{ℕ}
+use mathlib.Core.Bool.{Bool, true, false}
 use Rattle.model.specs.declared.Address.{Address}
 use Rattle.model.specs.declared.Given.{Given}
-use Rattle.model.specs.declared.Given.the-variants.{Absent}
+use Rattle.model.specs.declared.Given.the-variants.{Value, Absent}
 use Rattle.model.specs.declared.Header.{Header}
 use Rattle.model.specs.declared.Item.{Item}
 use Rattle.model.specs.declared.Kind.{Kind}
-use Rattle.model.specs.declared.Refusal.{Refusal}
 use Rattle.model.specs.Refusals.{Result, ok, refused}
 use Rattle.model.specs.Choice.{bit}
-use Rattle.model.specs.Bytes.{Found, Reader, _>>=_, pure, optional}
+use Rattle.model.specs.Bytes.{Found, Reader, pure, optional}
 use Rattle.model.specs.Records.{givenValue}
+use Rattle.fields.specs.Fields.{_>>=_}
 use Rattle.record.specs.declared.item.ItemRead as ItemRead
 use Rattle.record.specs.declared.item.ItemRead.{ItemRead}
-use Rattle.record.specs.declared.item.Step.{Step}
-use Rattle.record.specs.Fields.{rankField, belowField, cellField}
+use Rattle.record.specs.Optional.{rankField, numberField, cellField}
 
--- An item from its parts.
-abbrev pub itemOf : Step → Address → Given → Item
-itemOf step place given =
-    record {
-      kind = step .kind;
-      rank = step .rank;
-      transition = step .transition;
-      queue = step .queue;
-      place = place;
-      given = given;
-    }
+-- An item of which only the kind is known.
+abbrev pub bare : Kind → Item
+bare kind = record { kind = kind; rank = 0; transition = 0; queue = 0; place = record { rank = 0; cell = 0 }; given = Absent }
 
--- The value, and with it the item.
-unfoldable pub readValue : (map : ℕ) → Step → Address → Reader Item
-readValue map step place = do
+-- An item with some fields filled in.
+abbrev pub withActor : Item → (rank transition : ℕ) → Item
+withActor item rank transition =
+    record { kind = item .kind; rank = rank; transition = transition; queue = item .queue; place = item .place; given = item .given }
+
+abbrev pub withQueue : Item → (queue : ℕ) → Item
+withQueue item queue =
+    record { kind = item .kind; rank = item .rank; transition = item .transition; queue = queue; place = item .place; given = item .given }
+
+abbrev pub withPlace : Item → Address → Item
+withPlace item place =
+    record { kind = item .kind; rank = item .rank; transition = item .transition; queue = item .queue; place = place; given = item .given }
+
+abbrev pub withGiven : Item → Given → Item
+withGiven item given =
+    record { kind = item .kind; rank = item .rank; transition = item .transition; queue = item .queue; place = item .place; given = given }
+
+-- A value that was read, or none.
+abbrev pub given : (present : Bool) → (value : ℕ) → Given
+given true value = Value value
+given false value = Absent
+
+-- The value, which ends the item.
+unfoldable pub readGiven : (map : ℕ) → Item → Reader Item
+readGiven map item = do
   given ← optional (bit 5 map) Absent givenValue
-  pure (itemOf step place given)
+  pure (withGiven item given)
 
 -- The place and what follows it.
-unfoldable pub readPlace : Header → (map : ℕ) → Step → Reader Item
-readPlace header map step = do
+unfoldable pub readPlace : Header → (map : ℕ) → Item → Reader Item
+readPlace header map item = do
   rank ← rankField (bit 3 map) (header .ranks)
   cell ← cellField (bit 4 map) (header .cells)
-  readValue map step (record { rank = rank; cell = cell })
+  readGiven map (withPlace item (record { rank = rank; cell = cell }))
 
--- All that follows map and kind.
-unfoldable pub readStep : Header → (map : ℕ) → Kind → Reader Item
-readStep header map kind = do
+-- The queue and what follows it.
+unfoldable pub readQueue : Header → (map : ℕ) → Item → Reader Item
+readQueue header map item = do
+  queue ← numberField (bit 2 map) (header .queues)
+  readPlace header map (withQueue item queue)
+
+-- Rank and transition, and all that follows them.
+unfoldable pub readActor : Header → (map : ℕ) → Item → Reader Item
+readActor header map item = do
   rank ← rankField (bit 0 map) (header .ranks)
-  transition ← belowField (bit 1 map) (header .transitions)
-  queue ← belowField (bit 2 map) (header .queues)
-  readPlace header map (record { kind = kind; rank = rank; transition = transition; queue = queue })
+  transition ← numberField (bit 1 map) (header .transitions)
+  readQueue header map (withActor item rank transition)
 
 -- What the item reader answers, from what the definition finds.
 abbrev pub itemRead : Result (Found Item) → ItemRead
 itemRead (ok f) = ItemRead.the-variants.Read (f .value) (f .next)
 itemRead (refused r) = ItemRead.the-variants.Refused r
-
--- The refusal in an answer; none is the number 0, which no row of the table has.
-abbrev pub itemRefusal : ItemRead → Refusal
-itemRefusal (ItemRead.the-variants.Read item next) = record { number = 0; place = next }
-itemRefusal (ItemRead.the-variants.Refused r) = r

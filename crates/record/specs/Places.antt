@@ -1,19 +1,23 @@
--- The items of a record and their places: one after the other from place 2, the last one ending where the bytes end.
-use Prim.Native.Nat.{ℕ, _≤_, _<_}
+-- The items of a record and their places: one after the other behind the count, the last one ending where the bytes end.
+use Prim.Native.Nat.{ℕ, _≤_}
 use mathlib.Core.Path.{_≡_}
 use mathlib.Core.List.{List, [], _∷_}
-use lib.Dec.{eqb}
-use lib.ListN.{length, getD}
+use lib.Dec.{eqb, leb}
+use lib.ListN.{length}
 use Rattle.model.specs.declared.Header.{Header}
 use Rattle.model.specs.declared.Item.{Item}
 use Rattle.model.specs.Limits.{maxItems}
 use Rattle.model.specs.Refusals as Refusals
-use Rattle.model.specs.Refusals.{Result, ok, refused, refuse, recordLength}
+use Rattle.model.specs.Refusals.{Result, ok, refused, refuse, recordLength, recordRange}
 use Rattle.model.specs.Choice.{when}
-use Rattle.model.specs.Bytes.{found, word, times}
+use Rattle.model.specs.Bytes.{Found, Reader, found, word, judged, times}
 use Rattle.model.specs.Records.{readItem}
 use Rattle.record.specs.declared.reader.RecordRead as RecordRead
 use Rattle.record.specs.declared.reader.RecordRead.{RecordRead}
+
+-- Where the first item stands: behind the count.
+abbrev pub firstItem : ℕ
+firstItem = 2
 
 -- These items, read one after the other from a place to the end of the bytes.
 pub data ItemsFrom (header : Header) (bytes : List ℕ) : ℕ → List Item → Type 0 where
@@ -23,19 +27,21 @@ pub data ItemsFrom (header : Header) (bytes : List ℕ) : ℕ → List Item → 
 
 -- A readable record: the item count within its limit, and so many items behind it, up to the end.
 pub record Recorded (header : Header) (bytes : List ℕ) (items : List Item) : Type 0 where
-  pub count : word recordLength bytes 0 ≡ found (length items) 2
+  pub count : word recordLength bytes 0 ≡ found (length items) firstItem
   pub limit : length items ≤ maxItems
-  pub items-from : ItemsFrom header bytes 2 items
+  pub items-from : ItemsFrom header bytes firstItem items
 
--- What a slice of bytes holds.
-abbrev pub AreBytes : List ℕ → Type 0
-AreBytes bytes = (i : ℕ) → getD bytes i 0 < 256
+-- "a two-byte item count, 0..1,024"
+unfoldable pub itemCount : Reader ℕ
+itemCount = judged (λ n. leb n maxItems) recordRange (word recordLength)
 
--- So many items from a place, which have to reach the end of the bytes.
+-- Items that were found have to reach the end of the bytes.
+abbrev pub toEnd : (bytes : List ℕ) → Found (List Item) → Result (List Item)
+toEnd bytes f = when (eqb (f .next) (length bytes)) (λ _. ok (f .value)) (λ _. refuse recordLength (f .next))
+
+-- So many items from a place to the end.
 unfoldable pub itemsToEnd : Header → (count : ℕ) → List ℕ → (at : ℕ) → Result (List Item)
-itemsToEnd header count bytes at =
-    Refusals._>>=_ (times count (readItem header) bytes at)
-    (λ f. when (eqb (f .next) (length bytes)) (λ _. ok (f .value)) (λ _. refuse recordLength (f .next)))
+itemsToEnd header count bytes at = Refusals._>>=_ (times count (readItem header) bytes at) (toEnd bytes)
 
 -- An answer that gives this count where the items could be read.
 abbrev pub counted : (count : ℕ) → Result (List Item) → RecordRead

@@ -14,7 +14,7 @@ pub enum Form {
 }
 
 // The kind comes first: of an unknown one no map is right.
-pub fn item_form(map: u8, kind: u8) -> Form
+pub fn item_form(map: u16, kind: u16) -> Form
     ensures { λ r. ⌜ r ≡ itemForm map kind ⌝ }
 {
     match kind {
@@ -32,7 +32,7 @@ pub fn item_form(map: u8, kind: u8) -> Form
 }
 
 // Rank, transition and place, without or with a value.
-fn access(map: u8, kind: Kind) -> Form
+fn access(map: u16, kind: Kind) -> Form
     ensures { λ r. ⌜ r ≡ formIn map (some (record { kind = kind; maps = 27 ∷ 59 ∷ [] })) ⌝ }
 {
     match map {
@@ -42,7 +42,7 @@ fn access(map: u8, kind: Kind) -> Form
 }
 
 // Rank and transition.
-fn plain(map: u8, kind: Kind) -> Form
+fn plain(map: u16, kind: Kind) -> Form
     ensures { λ r. ⌜ r ≡ formIn map (some (record { kind = kind; maps = 3 ∷ [] })) ⌝ }
 {
     match map {
@@ -52,7 +52,7 @@ fn plain(map: u8, kind: Kind) -> Form
 }
 
 // Rank, queue and place, without or with a value.
-fn pop(map: u8, kind: Kind) -> Form
+fn pop(map: u16, kind: Kind) -> Form
     ensures { λ r. ⌜ r ≡ formIn map (some (record { kind = kind; maps = 29 ∷ 61 ∷ [] })) ⌝ }
 {
     match map {

@@ -1,7 +1,9 @@
 -- `read_transitions`: the loop keeps `Passed`, and the transitions left fall with each turn. Assumes nothing.
-use Rattle.program.proofs.Loops.{Passed, passed-none, passed-more, passed-refused, passed-all}
-use borrow.Author.Needs.{needs}
 use Prim.Native.Nat.{_-_}
+use lib.ListN.{replicate}
+use borrow.Author.Needs.{needs}
+use Rattle.model.specs.Limits.{maxRegisters}
+use Rattle.program.proofs.Loops.{Passed, passed-none, passed-more, passed-refused, left-over, all-read}
 use Rattle.program.proofs.reader.read_transitions.Statement.{statement}
 use Rattle.program.proofs.reader.read_transitions.Tie as tie
 
@@ -11,50 +13,30 @@ Inv-loop bytes at header starts₀ count place₀ i₀ starts place i = Passed h
 abbrev μ-loop : tie.MeasureT-loop
 μ-loop bytes at header starts₀ count place₀ i₀ starts place i = header .transitions - i
 
-cast-count : tie.Need-cast-count Inv-loop μ-loop
-cast-count c = search needs
-
-loop-holds : tie.Need-loop-holds Inv-loop μ-loop
-loop-holds c = passed-none _ _ _
-
-skip-transition-requires : tie.Need-skip-transition-requires Inv-loop μ-loop
-skip-transition-requires c κs = search needs
-
-enum-known-read : tie.Need-enum-known-read Inv-loop μ-loop
-enum-known-read c = search needs
-
-enum-told : tie.Need-enum-told Inv-loop μ-loop
-enum-told c = search needs
-
 returns : tie.Need-returns Inv-loop μ-loop
 returns c =
-    let c₁ = c .before .before .before .before in
-    passed-refused (c₁ .loop .inv) (c₁ .before .before .before .pre) (c .before .before .before .loop-test .taken)
-    (c .before .before .skip-transition .ensures) (c .enum-told .given .1)
-
-mul-starts : tie.Need-mul-starts Inv-loop μ-loop
-mul-starts c = search needs
-
-array-write-starts : tie.Need-array-write-starts Inv-loop μ-loop
-array-write-starts c = search needs
-
-add-i : tie.Need-add-i Inv-loop μ-loop
-add-i c = search needs
-
-loop-less : tie.Need-loop-less Inv-loop μ-loop
-loop-less c = search needs
+    let read = c .before .before in
+    let turn = read .before .before .before in
+    rw (c .refused .ensures)
+    (passed-refused (turn .before .loop .inv) (turn .loop-test .taken) 0 (replicate maxRegisters 0)
+    (read .before .before .read-transition .ensures) (read .read .given .1))
 
 loop-again : tie.Need-loop-again Inv-loop μ-loop
 loop-again c =
-    let c₁ = c .before .before .before .before in
-    let c₂ = c₁ .before .before .before .before in
-    passed-more (c₁ .before .loop .inv) (c₂ .pre) (c₁ .loop-test .taken) (c .before .before .before .skip-transition .ensures)
-    (c .before .read .given .1)
+    let read = c .before in
+    let turn = read .before .before .before in
+    passed-more (turn .before .loop .inv) (turn .loop-test .taken) 0 (replicate maxRegisters 0)
+    (read .before .before .read-transition .ensures) (read .read2 .given .1)
 
 returns-2 : tie.Need-returns-2 Inv-loop μ-loop
 returns-2 c =
-    let c₁ = c .before .before .before .before in
-    passed-all (c .before .loop .inv) (c₁ .pre) (c .loop-test .left)
+    let end = c .before .before in
+    rw (c .refused2 .ensures) (left-over (end .before .loop .inv) (end .loop-test .left) (c .before .if1 .taken))
+
+returns-3 : tie.Need-returns-3 Inv-loop μ-loop
+returns-3 c =
+    let end = c .before in
+    all-read (end .before .loop .inv) (end .loop-test .left) (c .if1 .left)
 
 pub read-transitions-spec : {M : Type 1} → statement M
 read-transitions-spec =
@@ -62,15 +44,18 @@ read-transitions-spec =
     (tie.spec
     Inv-loop
     μ-loop
-    cast-count
-    loop-holds
-    skip-transition-requires
-    enum-known-read
-    enum-told
+    (λ c. search needs)
+    (λ c. passed-none _ _ _ (c .before .before .pre))
+    (λ c κs. search needs)
+    (λ c. search needs)
+    (λ c κs. search needs)
     returns
-    mul-starts
-    array-write-starts
-    add-i
-    loop-less
+    (λ c. search needs)
+    (λ c. search needs)
+    (λ c. search needs)
+    (λ c. search needs)
+    (λ c. search needs)
     loop-again
-    returns-2)
+    (λ c κs. search needs)
+    returns-2
+    returns-3)

@@ -1,0 +1,15 @@
+-- `read_value`: where the bit stands, the answer is the word. Assumes nothing.
+use borrow.Author.Needs.{needs}
+use Rattle.fields.proofs.Fields.{absent-field, present-field}
+use Rattle.record.specs.Optional.{valueField}
+use Rattle.record.proofs.optional.read_value.Statement.{statement}
+use Rattle.record.proofs.optional.read_value.Tie as tie
+
+pub read-value-spec : {M : Type 1} → statement M
+unfolding valueField
+read-value-spec =
+    tie.close
+    (tie.spec
+    (λ c κs. search needs)
+    (λ c. present-field _ _ _ (c .before .if1 .taken) (c .read-word .ensures))
+    (λ c. absent-field _ _ _ (c .if1 .left)))

@@ -1,0 +1,23 @@
+-- The fields of an item, by kinds of field. A field is there only where its map bit stands, and else 0.
+use Prim.Native.Nat.{ℕ}
+use mathlib.Core.Bool.{Bool}
+use lib.Dec.{ltb}
+use Rattle.model.specs.Refusals.{recordLength, recordRange}
+use Rattle.model.specs.Choice.{between}
+use Rattle.model.specs.Bytes.{Reader, byte, word, judged, optional}
+
+-- A rank or a place's rank, 1 to `ranks`.
+unfoldable pub rankField : (present : Bool) → (ranks : ℕ) → Reader ℕ
+rankField present ranks = optional present 0 (judged (between 1 ranks) recordRange (byte recordLength))
+
+-- A transition or a queue, below `limit`.
+unfoldable pub numberField : (present : Bool) → (limit : ℕ) → Reader ℕ
+numberField present limit = optional present 0 (judged (λ n. ltb n limit) recordRange (byte recordLength))
+
+-- A place's cell, below `cells`.
+unfoldable pub cellField : (present : Bool) → (cells : ℕ) → Reader ℕ
+cellField present cells = optional present 0 (judged (λ a. ltb a cells) recordRange (word recordLength))
+
+-- A value.
+unfoldable pub valueField : (present : Bool) → Reader ℕ
+valueField present = optional present 0 (word recordLength)

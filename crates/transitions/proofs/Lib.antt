@@ -1,3 +1,0 @@
-pub mod ValueReads
-pub mod RegisterTests
-pub mod Commands

@@ -1,2 +1,0 @@
--- What a transition is when it is read again at its start.
-pub mod Transitions
