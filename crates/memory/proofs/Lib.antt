@@ -1,0 +1,4 @@
+pub mod Tables
+pub mod Stores
+pub mod Tied
+pub mod Filled

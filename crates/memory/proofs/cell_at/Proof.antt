@@ -1,0 +1,31 @@
+-- `memory::cell_at` meets its contract: the tests are those of the definition.
+use borrow.Author.Needs.{needs}
+use Rattle.memory.proofs.Tables.{number-inside, number-beyond, number-outside}
+use Rattle.memory.proofs.cell_at.Statement.{statement}
+use Rattle.memory.proofs.cell_at.Tie as tie
+
+returns : tie.Need-returns
+returns c =
+    let atCell = c .before in
+    let atRow = atCell .before .before .before in
+    number-inside _ _ _ _ (atRow .row-of .ensures) _ (atCell .before .if1 .taken) (atCell .if2 .taken)
+
+returns-2 : tie.Need-returns-2
+returns-2 c = let atRow = c .before .before .before in number-beyond _ _ _ _ (atRow .row-of .ensures) _ (c .if2 .left)
+
+returns-3 : tie.Need-returns-3
+returns-3 c = let atRow = c .before .before in number-outside _ _ _ _ (atRow .row-of .ensures) _ (c .if1 .left)
+
+pub cell-at-spec : {M : Type 1} → statement M
+cell-at-spec =
+    tie.close
+    (tie.spec
+    (λ c κs. search needs)
+    (λ c. search needs)
+    (λ c. search needs)
+    (λ c. search needs)
+    (λ c. search needs)
+    (λ c. search needs)
+    returns
+    returns-2
+    returns-3)

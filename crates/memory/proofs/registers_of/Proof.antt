@@ -1,0 +1,14 @@
+-- `memory::registers_of` meets its contract: the test is the definition's.
+use borrow.Author.Needs.{needs}
+use Rattle.memory.proofs.Tables.{row-inside, row-outside}
+use Rattle.memory.proofs.registers_of.Statement.{statement}
+use Rattle.memory.proofs.registers_of.Tie as tie
+
+returns : tie.Need-returns
+returns c = let atTest = c .before in row-inside _ _ _ _ (atTest .before .row-of .ensures) (atTest .if1 .taken)
+
+returns-2 : tie.Need-returns-2
+returns-2 c = row-outside _ _ _ _ (c .before .row-of .ensures) (c .if1 .left)
+
+pub registers-of-spec : {M : Type 1} → statement M
+registers-of-spec = tie.close (tie.spec (λ c κs. search needs) (λ c. search needs) (λ c. search needs) returns returns-2)

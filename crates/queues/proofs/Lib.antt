@@ -1,0 +1,10 @@
+pub mod Calls
+pub mod Every
+pub mod EntryLists
+pub mod Changes
+pub mod Chains
+pub mod Chained
+pub mod Contents
+pub mod Heads
+pub mod Moves
+pub mod Queued

@@ -1,0 +1,18 @@
+-- `queues::entries::delivery_at` meets its contract: its parts are read one by one.
+use borrow.Author.Needs.{needs}
+use Rattle.queues.proofs.entries.delivery_at.Statement.{statement}
+use Rattle.queues.proofs.entries.delivery_at.Tie as tie
+
+returns : tie.Need-returns
+returns c =
+    let atValue = c .before in
+    rw (atValue .before .address-at .ensures, atValue .field-at .ensures, c .field-at2 .ensures)
+
+pub delivery-at-spec : {M : Type 1} → statement M
+delivery-at-spec =
+    tie.close
+    (tie.spec
+    (λ c κs. search needs)
+    (λ c κs. search needs)
+    (λ c κs. search needs)
+    returns)

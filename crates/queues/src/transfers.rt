@@ -1,0 +1,92 @@
+// What the steps of the replay do to the queues.
+use crate::Ends;
+use crate::Part;
+use crate::Pool;
+use crate::Request;
+use crate::VALUE;
+use crate::entries::set_field;
+use crate::entries::set_request;
+use crate::lists::link;
+use crate::lists::list_of;
+use crate::lists::next_of;
+use crate::lists::unlink;
+use memory::row_of;
+use model::ITEMS;
+use model::QUEUES;
+use model::RANKS;
+ghost use mathlib.Core.Path.{_≡_};
+ghost use Rattle.queues.specs.Lists.{tables};
+ghost use Rattle.queues.specs.Transfers.{hasRoom, appended, fetchedEntry, fetched, delivered};
+
+// Whether there is such a queue, and an entry for such an item.
+fn has_room(rank: u16, queue: u16, at: usize) -> bool
+    ensures { λ r. ⌜ r ≡ hasRoom rank queue at ⌝ }
+{
+    let row = row_of(rank, RANKS);
+    let index = queue as usize;
+    if row < RANKS {
+        if index < QUEUES {
+            return at < ITEMS;
+        }
+    }
+    false
+}
+
+// The transfer of item `at` joins the requests of a queue.
+pub fn append(pool: &mut Pool, ends: &mut Ends, rank: u16, queue: u16, at: usize, request: Request)
+    ensures { λ r. ⌜ tables (now (pool .exit)) (now (ends .exit)) ≡
+        appended (tables (now (pool .entry)) (now (ends .entry))) rank queue at request ⌝ }
+{
+    if has_room(rank, queue, at) {
+        let entry = (at + 1) as u16;
+        set_request(pool, entry, request);
+        link(pool, ends, rank, list_of(queue, Part::Requests), entry);
+    }
+}
+
+// An entry leaves the requests of a queue, where `previous` is the one before it, and joins the deliveries with the value that was read.
+fn fetch_entry(
+    pool: &mut Pool,
+    ends: &mut Ends,
+    rank: u16,
+    queue: u16,
+    previous: u16,
+    entry: u16,
+    value: u16,
+)
+    ensures { λ r. ⌜ tables (now (pool .exit)) (now (ends .exit)) ≡
+        fetchedEntry (tables (now (pool .entry)) (now (ends .entry))) rank queue previous entry value ⌝ }
+{
+    set_field(pool, entry, VALUE, value);
+    unlink(
+        pool,
+        ends,
+        rank,
+        list_of(queue, Part::Requests),
+        previous,
+        entry,
+    );
+    link(pool, ends, rank, list_of(queue, Part::Deliveries), entry);
+}
+
+// The oldest request of a queue is fetched: it is the newest delivery then.
+pub fn fetch(pool: &mut Pool, ends: &mut Ends, rank: u16, queue: u16, value: u16)
+    ensures { λ r. ⌜ tables (now (pool .exit)) (now (ends .exit)) ≡
+        fetched (tables (now (pool .entry)) (now (ends .entry))) rank queue value ⌝ }
+{
+    let entry = next_of(ends, rank, queue, Part::Requests);
+    if entry != 0 {
+        fetch_entry(pool, ends, rank, queue, 0, entry, value);
+    }
+}
+
+// The oldest delivery of a queue is done.
+pub fn deliver(pool: &mut Pool, ends: &mut Ends, rank: u16, queue: u16)
+    ensures { λ r. ⌜ tables (now (pool .exit)) (now (ends .exit)) ≡
+        delivered (tables (now (pool .entry)) (now (ends .entry))) rank queue ⌝ }
+{
+    let entry = next_of(ends, rank, queue, Part::Deliveries);
+    if entry != 0 {
+        unlink(pool, ends, rank, list_of(queue, Part::Deliveries), 0, entry);
+    }
+}
