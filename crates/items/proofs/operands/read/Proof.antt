@@ -1,0 +1,13 @@
+-- `read`, by what came of the operands.
+use borrow.Author.Needs.{needs}
+use Rattle.items.proofs.operands.read.Statement.{statement}
+use Rattle.items.proofs.operands.read.Tie as tie
+
+returns : tie.Need-returns
+returns c = rw (c .before .transfer .given .1)
+
+returns-2 : tie.Need-returns-2
+returns-2 c = rw (c .before .transfer2 .given .1)
+
+pub read-spec : {M : Type 1} → statement M
+read-spec = tie.close (tie.spec (λ c. search needs) (λ c. search needs) returns returns-2)

@@ -1,0 +1,4 @@
+-- What the code answers of an item, by the definitions of `model`.
+pub mod Accesses
+pub mod Progress
+pub mod Operands
