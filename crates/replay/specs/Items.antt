@@ -1,35 +1,47 @@
--- What the step needs of a program that was read and of an item that was read for it.
-use Prim.Native.Nat.{ℕ, _<_}
+-- The items of a record on arrays, one after the other: what the code makes of the machine's arrays and of the trail. Nothing is asked of the arrays.
+use Prim.Native.Nat.{ℕ, zero, suc}
 use mathlib.Core.Path.{_≡_}
 use mathlib.Core.List.{List}
-use mathlib.Core.Option.{Option, some}
-use lib.ListN.{getD, getElem?}
 use Rattle.model.specs.declared.Header.{Header}
-use Rattle.model.specs.declared.Item.{Item}
-use Rattle.model.specs.Limits.{maxQueues}
-use Rattle.model.specs.Bytes.{found}
-use Rattle.model.specs.Programs.{Program, Transition, readTransition}
-use Rattle.model.specs.Replay as Replay
-use Rattle.model.specs.Replay.{partOf}
-use Rattle.replay.specs.declared.items.Part.{Part}
-use Rattle.replay.specs.declared.items.Part.the-variants.{Command, Fetch, Delivery}
-use Rattle.replay.specs.Tables.{Rank, Place}
+use Rattle.model.specs.Refusals.{Result, ok, refused, _>>=_}
+use Rattle.model.specs.Records.{readItem}
+use Rattle.memory.specs.Tables.{Table}
+use Rattle.items.specs.declared.rows.Progress.{Progress}
+use Rattle.step.specs.Arrays.{Memory}
+use Rattle.step.specs.Steps.{itemOn}
+use Rattle.replay.specs.declared.run.Ran as Ran
+use Rattle.replay.specs.declared.run.Ran.{Ran}
+use Rattle.replay.specs.Trails.{told}
 
--- "its part (command, fetch or delivery)", as the code has it.
-abbrev pub partCode : Replay.Part → Part
-partCode Replay.command = Command
-partCode Replay.fetch = Fetch
-partCode Replay.delivery = Delivery
+-- Where the replay stands: its arrays, how far it is, and what it has told.
+pub record RunState : Type 0 where
+  pub memory : Memory
+  pub progress : Progress
+  pub trail : Table
 
--- Each transition of the program stands at its start.
-abbrev pub Loaded : (bytes starts : List ℕ) → Program → Type 0
-Loaded bytes starts P =
-    (i : ℕ) → i < P .header .transitions →
-    (t : Transition) × (end : ℕ) × (getElem? (P .transitions) i ≡ some t) × (readTransition (P .header) bytes (getD starts i 0) ≡ found t end)
+abbrev pub begun : Memory → Table → RunState
+begun memory trail = record { memory = memory; progress = record { at = 0; opened = 0; row = 0 }; trail = trail }
 
--- An item whose numbers are ones that the arrays and the program have.
-pub record ItemFits (header : Header) (i : Item) : Type 0 where
-  pub rankFits : Rank (i .rank)
-  pub commands : partOf (i .kind) ≡ Replay.command → i .transition < header .transitions
-  pub fetches : partOf (i .kind) ≡ Replay.fetch → (i .queue < maxQueues) × Place (i .place)
-  pub delivers : partOf (i .kind) ≡ Replay.delivery → (i .queue < maxQueues) × Place (i .place)
+-- So many items from a place.
+unfoldable pub itemsOn : (bytes starts : List ℕ) → Header → (recorded : List ℕ) → (left place : ℕ) → RunState → Result RunState
+unfolding told
+itemsOn bytes starts h recorded zero place s = ok s
+itemsOn bytes starts h recorded (suc left) place s = do
+  f ← readItem h recorded place
+  l ← itemOn bytes starts h (f .value) (s .progress) (s .memory)
+  itemsOn bytes starts h recorded left (f .next)
+      (record {
+        memory = l .memory;
+        progress = l .next;
+        trail = told (s .trail) (s .progress .at) (f .value) (l .group) (l .access);
+      })
+
+abbrev pub ranTo : Result RunState → Ran
+ranTo (ok s) = Ran.the-variants.Ended (s .progress)
+ranTo (refused r) = Ran.the-variants.Refused r
+
+-- The answer, and where all items are taken the arrays and the trail.
+pub record RunsAs (definition : Result RunState) (memory : Memory) (trail : Table) (ran : Ran) : Type 0 where
+  pub answers : ran ≡ ranTo definition
+  pub leaves : (s : RunState) → definition ≡ ok s → memory ≡ s .memory
+  pub tells : (s : RunState) → definition ≡ ok s → trail ≡ s .trail

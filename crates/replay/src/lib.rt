@@ -1,14 +1,171 @@
-// The replay of a record on a program: the machine's arrays, and each item taken or refused. Every function equals its definition in `model`.
-mod actions;
-mod commands;
-mod copies;
-mod ending;
-mod items;
-mod memory;
-mod operands;
-mod pops;
-mod queues;
-mod refusals;
+// The replay of a record on a program: the program is read, then the record, then its items are taken in turn, and at the end no row is open and all
+// queues are empty.
 mod run;
-mod step;
-pub mod whole;
+
+use crate::run::Ran;
+use crate::run::take_items;
+use memory::copies::copied_cells;
+use model::Cells;
+use model::Control;
+use model::Header;
+use model::ITEMS;
+use model::RANKS;
+use model::REGISTERS;
+use model::Refusal;
+use model::Registers;
+use model::Starts;
+use model::TOLD;
+use model::Trail;
+use model::refusals::BARRIER_ROW;
+use model::refusals::QUEUES_LEFT;
+use program::reader::ReadAnswer;
+use program::reader::read_program;
+use queues::ENDS;
+use queues::ENTRY;
+use queues::ending::all_empty;
+use record::reader::RecordRead;
+use record::reader::read_record;
+ghost use Rattle.model.specs.Checks.{accept};
+ghost use Rattle.model.specs.Programs.{Program};
+ghost use Rattle.memory.specs.Copies.{startIn};
+ghost use Rattle.step.specs.Standing.{Loaded};
+ghost use Rattle.replay.specs.Handed.{Readable, HandsOver, lent, acceptItems, acceptRecord};
+
+// An accepted record of a readable program: the program's numbers, how many items the record has, and how many groups they form; or the refusal.
+pub enum Acceptance {
+    Accepted {
+        header: Header,
+        items: usize,
+        groups: u16,
+    },
+    Refused(Refusal),
+}
+
+// The items of a record that was read for a program that was read. All work is done on copies, so that a refusal leaves the lent arrays alone.
+fn replay_items(
+    program: &[u8],
+    starts: &Starts,
+    header: Header,
+    recorded: &[u8],
+    count: usize,
+    control: &mut Control,
+    registers: &mut Registers,
+    cells: &mut Cells,
+    trail: &mut Trail,
+) -> Acceptance
+    ensures { λ r. ⌜ ((given : Readable (now (program .entry)) (now (starts .entry)) header (now (recorded .entry)) count) →
+        HandsOver (acceptItems (given .P) (startIn (now (cells .entry))) (given .items))
+        (lent (now (control .entry)) (now (registers .entry)) (now (cells .entry)) (now (trail .entry)))
+        (lent (now (control .exit)) (now (registers .exit)) (now (cells .exit)) (now (trail .exit))) r) ⌝ }
+{
+    let mut last_control = [0; RANKS];
+    let mut last_registers = [[0; REGISTERS]; RANKS];
+    let mut last_cells = copied_cells(cells);
+    let mut pool = [[0; ENTRY]; ITEMS];
+    let mut ends = [[0; ENDS]; RANKS];
+    let mut told = [[0; TOLD]; ITEMS];
+    let ran = take_items(
+        program,
+        starts,
+        header,
+        recorded,
+        count,
+        &mut last_control,
+        &mut last_registers,
+        &mut last_cells,
+        &mut pool,
+        &mut ends,
+        &mut told,
+    );
+    match ran {
+        Ran::Refused(refusal) => Acceptance::Refused(refusal),
+        Ran::Ended(progress) => {
+            if progress.row != 0 {
+                return Acceptance::Refused(Refusal {
+                    number: BARRIER_ROW,
+                    place: count,
+                });
+            }
+            if !all_empty(&ends, header.ranks, header.queues) {
+                return Acceptance::Refused(Refusal {
+                    number: QUEUES_LEFT,
+                    place: count,
+                });
+            }
+            *control = last_control;
+            *registers = last_registers;
+            *cells = last_cells;
+            *trail = told;
+            Acceptance::Accepted {
+                header,
+                items: count,
+                groups: progress.opened,
+            }
+        }
+    }
+}
+
+// A record for a program that was read.
+fn replay_record(
+    program: &[u8],
+    starts: &Starts,
+    header: Header,
+    recorded: &[u8],
+    control: &mut Control,
+    registers: &mut Registers,
+    cells: &mut Cells,
+    trail: &mut Trail,
+) -> Acceptance
+    ensures { λ r. ⌜ ((P : Program) → Loaded (now (program .entry)) (now (starts .entry)) header P →
+        HandsOver (acceptRecord P (startIn (now (cells .entry))) (now (recorded .entry)))
+        (lent (now (control .entry)) (now (registers .entry)) (now (cells .entry)) (now (trail .entry)))
+        (lent (now (control .exit)) (now (registers .exit)) (now (cells .exit)) (now (trail .exit))) r) ⌝ }
+{
+    match read_record(recorded, header) {
+        RecordRead::Readable { count } => replay_items(
+            program,
+            starts,
+            header,
+            recorded,
+            count,
+            control,
+            registers,
+            cells,
+            trail,
+        ),
+        RecordRead::Refused(refusal) => Acceptance::Refused(refusal),
+    }
+}
+
+// Replays a record on a program. The cells hold the start. At acceptance they hold the last contents, `control` and `registers` the last states and
+// registers, and row i of `trail` tells of item i: its rank if it is a command and else 0; its group; and its access, 0 for none and else
+// 1 + 2 * (CELLS * (rank - 1) + cell), plus 1 if it writes. The other rows are 0 then. On a refusal nothing lent changes.
+pub fn replay(
+    program: &[u8],
+    recorded: &[u8],
+    control: &mut Control,
+    registers: &mut Registers,
+    cells: &mut Cells,
+    trail: &mut Trail,
+) -> Acceptance
+    ensures { λ r. ⌜ HandsOver (accept (startIn (now (cells .entry))) (now (program .entry)) (now (recorded .entry)))
+        (lent (now (control .entry)) (now (registers .entry)) (now (cells .entry)) (now (trail .entry)))
+        (lent (now (control .exit)) (now (registers .exit)) (now (cells .exit)) (now (trail .exit))) r ⌝ }
+{
+    let read = read_program(program);
+    let answer = read.answer;
+    let starts = read.starts;
+    match answer {
+        ReadAnswer::Readable(header) => replay_record(
+            program,
+            &starts,
+            header,
+            recorded,
+            control,
+            registers,
+            cells,
+            trail,
+        ),
+        ReadAnswer::Refused(refusal) => Acceptance::Refused(refusal),
+    }
+}

@@ -1,100 +1,116 @@
 // The items of a record in turn, each read at its place and taken, and what the drawing of arrows needs of each.
-use crate::items::take_item;
-use crate::step::Step;
+use items::kinds::same_kind;
+use items::rows::Progress;
+use model::Cells;
+use model::Control;
 use model::Header;
+use model::ITEMS;
+use model::Item;
+use model::Kind;
 use model::Refusal;
+use model::Registers;
+use model::Starts;
+use model::Trail;
+use queues::Ends;
+use queues::Pool;
 use record::item::ItemRead;
 use record::item::read_item;
+use record::reader::FIRST_ITEM;
+use step::item::Outcome;
+use step::item::take_item;
 ghost use mathlib.Core.Path.{_≡_};
-ghost use lib.ListN.{length};
-ghost use Rattle.model.specs.Limits.{maxItems};
-ghost use Rattle.replay.specs.Steps.{memory};
-ghost use Rattle.replay.specs.Runs.{ProgramOf, ItemsOf, Begun, RanAs, ranRefusal};
+ghost use Rattle.record.specs.Places.{firstItem};
+ghost use Rattle.step.specs.Arrays.{memory};
+ghost use Rattle.replay.specs.Trails.{commandRank, told};
+ghost use Rattle.replay.specs.Items.{itemsOn, begun, RunsAs};
 
-// All items taken: how many groups there are, and how many ranks stand in an open barrier row; or the first refusal.
+// All items taken, and how far the replay is then; or the first refusal.
 pub enum Ran {
-    Ended { opened: u16, row: u8 },
+    Ended(Progress),
     Refused(Refusal),
 }
 
-impl Ran {
-    // The refusal in whose place no run ended. No row of the table has the number 0, which stands for none.
-    pub fn refusal(self) -> Refusal
-        ensures { λ r. ⌜ r ≡ ranRefusal self ⌝ }
-    {
-        match self {
-            Ran::Refused(refusal) => refusal,
-            Ran::Ended { opened: _, row: _ } => Refusal {
-                number: 0,
-                place: 0,
-            },
-        }
+// "Pops are not in program order": the rank of a command, and 0 for a pop.
+fn command_rank(item: Item) -> u16
+    ensures { λ r. ⌜ r ≡ commandRank item ⌝ }
+{
+    let kind = item.kind;
+    if same_kind(kind, Kind::Popa) {
+        return 0;
+    }
+    if same_kind(kind, Kind::Popb) {
+        return 0;
+    }
+    item.rank
+}
+
+// What is told of the item with the number `at`.
+fn tell(trail: &mut Trail, at: usize, item: Item, group: u16, access: u16)
+    ensures { λ r. ⌜ now (trail .exit) ≡ told (now (trail .entry)) at item group access ⌝ }
+{
+    if at < ITEMS {
+        trail[at] = [command_rank(item), group, access];
     }
 }
 
-// From the start that the arrays hold. Entry i of `groups` and of `accesses` tells of item i.
+// So many items from the first on, from the start that the arrays hold. Row i of the trail tells of item i.
 pub fn take_items(
     program: &[u8],
-    starts: &[usize; 128],
+    starts: &Starts,
     header: Header,
     recorded: &[u8],
     count: usize,
-    control: &mut [u8; 8],
-    registers: &mut [[u16; 16]; 8],
-    cells: &mut [[u16; 64]; 8],
-    entries: &mut [[u16; 24576]; 8],
-    counters: &mut [[u16; 12]; 8],
-    groups: &mut [u16; 1024],
-    accesses: &mut [u16; 1024],
+    control: &mut Control,
+    registers: &mut Registers,
+    cells: &mut Cells,
+    pool: &mut Pool,
+    ends: &mut Ends,
+    trail: &mut Trail,
 ) -> Ran
-    requires { ⌜ ProgramOf (now program) (now starts) header ⌝ ∗ ⌜ ItemsOf header (now recorded) count ⌝ ∗
-        ⌜ Begun (memory (now control) (now registers) (now cells) (now entries) (now counters)) ⌝ ∗
-        ⌜ (length (now groups) ≡ maxItems) × (length (now accesses) ≡ maxItems) ⌝ }
-    ensures { λ r. ⌜ ((p : ProgramOf (now (program .entry)) (now (starts .entry)) header)
-        (i : ItemsOf header (now (recorded .entry)) count)
-        (begun : Begun (memory (now (control .entry)) (now (registers .entry)) (now (cells .entry)) (now (entries .entry)) (now (counters .entry)))) →
-        RanAs p i begun (now (groups .entry)) (now (accesses .entry))
-        (memory (now (control .exit)) (now (registers .exit)) (now (cells .exit)) (now (entries .exit)) (now (counters .exit)))
-        (now (groups .exit)) (now (accesses .exit)) r) ⌝ }
+    ensures { λ r. ⌜ RunsAs
+        (itemsOn (now (program .entry)) (now (starts .entry)) header (now (recorded .entry)) count firstItem
+        (begun (memory (now (control .entry)) (now (registers .entry)) (now (cells .entry)) (now (pool .entry)) (now (ends .entry)))
+        (now (trail .entry))))
+        (memory (now (control .exit)) (now (registers .exit)) (now (cells .exit)) (now (pool .exit)) (now (ends .exit)))
+        (now (trail .exit)) r ⌝ }
 {
-    let mut place = 2;
-    let mut at = 0;
-    let mut opened = 0;
-    let mut row = 0;
-    while at < count {
-        let read = read_item(header, recorded, place);
-        let ItemRead::Read { item, next } = read else {
-            return Ran::Refused(read.refusal());
-        };
-        let step = take_item(
-            program,
-            starts,
-            header,
-            item,
-            at,
-            opened,
-            row,
-            control,
-            registers,
-            cells,
-            entries,
-            counters,
-        );
-        let Step::Taken {
-            opened: now_opened,
-            row: now_row,
-            group,
-            access,
-        } = step
-        else {
-            return Ran::Refused(step.refusal());
-        };
-        groups[at] = group;
-        accesses[at] = access;
-        opened = now_opened;
-        row = now_row;
-        place = next;
-        at += 1;
+    let mut place = FIRST_ITEM;
+    let mut left = count;
+    let mut progress = Progress {
+        at: 0,
+        opened: 0,
+        row: 0,
+    };
+    while left > 0 {
+        match read_item(recorded, place, header) {
+            ItemRead::Refused(refusal) => return Ran::Refused(refusal),
+            ItemRead::Read { item, next } => {
+                match take_item(
+                    program,
+                    starts,
+                    header,
+                    item,
+                    progress,
+                    control,
+                    registers,
+                    cells,
+                    pool,
+                    ends,
+                ) {
+                    Outcome::Refused(refusal) => return Ran::Refused(refusal),
+                    Outcome::Taken {
+                        next: after,
+                        group,
+                        access,
+                    } => {
+                        tell(trail, progress.at, item, group, access);
+                        progress = after;
+                        place = next;
+                    }
+                }
+            }
+        }
+        left -= 1;
     }
-    Ran::Ended { opened, row }
+    Ran::Ended(progress)
 }

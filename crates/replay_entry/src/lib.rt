@@ -1,8 +1,13 @@
 // The whole replay for a program in another language that links the static library.
-use replay::whole::Replayed;
-use replay::whole::replay;
+use model::Cells;
+use model::Control;
+use model::Registers;
+use model::Trail;
+use replay::Acceptance;
+use replay::replay;
 ghost use Rattle.model.specs.Checks.{accept};
-ghost use Rattle.replay.specs.Handed.{startIn, lent};
+ghost use Rattle.memory.specs.Copies.{startIn};
+ghost use Rattle.replay.specs.Handed.{lent};
 ghost use Rattle.replay_entry.specs.Reports.{Reports};
 
 // What the entry returns for an accepted record: no row of document 01's table has this number.
@@ -15,31 +20,22 @@ const ACCEPTED: u8 = 0;
 pub extern "C" fn lellmusu_replay(
     program: &[u8],
     recorded: &[u8],
-    control: &mut [u8; 8],
-    registers: &mut [[u16; 16]; 8],
-    cells: &mut [[u16; 64]; 8],
-    groups: &mut [u16; 1024],
-    accesses: &mut [u16; 1024],
+    control: &mut Control,
+    registers: &mut Registers,
+    cells: &mut Cells,
+    trail: &mut Trail,
     place: &mut usize,
     items: &mut usize,
     opened: &mut u16,
 ) -> u8
     ensures { λ r. ⌜ Reports (accept (startIn (now (cells .entry))) (now (program .entry)) (now (recorded .entry)))
-        (lent (now (control .entry)) (now (registers .entry)) (now (cells .entry)) (now (groups .entry)) (now (accesses .entry)))
-        (lent (now (control .exit)) (now (registers .exit)) (now (cells .exit)) (now (groups .exit)) (now (accesses .exit)))
+        (lent (now (control .entry)) (now (registers .entry)) (now (cells .entry)) (now (trail .entry)))
+        (lent (now (control .exit)) (now (registers .exit)) (now (cells .exit)) (now (trail .exit)))
         (record { place = now (place .entry); items = now (items .entry); opened = now (opened .entry) })
         (record { place = now (place .exit); items = now (items .exit); opened = now (opened .exit) }) r ⌝ }
 {
-    match replay(
-        program,
-        recorded,
-        control,
-        registers,
-        cells,
-        groups,
-        accesses,
-    ) {
-        Replayed::Accepted {
+    match replay(program, recorded, control, registers, cells, trail) {
+        Acceptance::Accepted {
             header: _,
             items: count,
             groups: formed,
@@ -48,7 +44,7 @@ pub extern "C" fn lellmusu_replay(
             *opened = formed;
             ACCEPTED
         }
-        Replayed::Refused(refusal) => {
+        Acceptance::Refused(refusal) => {
             *place = refusal.place;
             refusal.number
         }

@@ -5,22 +5,44 @@ use second::limits::{refuse, Outcome};
 /// What the entry returns for an accepted record.
 const ACCEPTED: u8 = 0;
 
+/// Document 01's limits: ranks, cells and registers of a rank, items of a record.
+pub const RANKS: usize = 8;
+/// The cells of a rank.
+pub const CELLS: usize = 64;
+/// The registers of a rank.
+pub const REGISTERS: usize = 16;
+/// The items of a record.
+pub const ITEMS: usize = 1024;
+
 /// What the cells of all ranks hold.
-pub type Cells = [[u16; 64]; 8];
+pub type Cells = [[u16; CELLS]; RANKS];
+
+/// For each item its rank if it is a command and else 0, its group, and its access.
+pub type Trail = [[u16; 3]; ITEMS];
 
 /// The arrays that the entry is lent.
 #[derive(Debug, Clone, PartialEq, Eq)]
 pub struct Lent {
     /// The control state of each rank.
-    pub control: [u8; 8],
+    pub control: [u16; RANKS],
     /// The registers of each rank.
-    pub registers: [[u16; 16]; 8],
+    pub registers: [[u16; REGISTERS]; RANKS],
     /// The cells of each rank: the start, and after an accepted record the last contents.
     pub cells: Cells,
-    /// The group of each item.
-    pub groups: [u16; 1024],
-    /// The access of each item.
-    pub accesses: [u16; 1024],
+    /// What is told of each item.
+    pub trail: Trail,
+}
+
+impl Lent {
+    /// These cells, and one number in every entry of the other arrays.
+    pub fn filled(cells: Cells, number: u16) -> Lent {
+        Lent {
+            control: [number; RANKS],
+            registers: [[number; REGISTERS]; RANKS],
+            cells,
+            trail: [[number; 3]; ITEMS],
+        }
+    }
 }
 
 /// How many items an accepted record has, and how many groups they form.
@@ -39,11 +61,10 @@ extern "C" {
         program_length: usize,
         recorded: *const u8,
         recorded_length: usize,
-        control: *mut [u8; 8],
-        registers: *mut [[u16; 16]; 8],
+        control: *mut [u16; RANKS],
+        registers: *mut [[u16; REGISTERS]; RANKS],
         cells: *mut Cells,
-        groups: *mut [u16; 1024],
-        accesses: *mut [u16; 1024],
+        trail: *mut Trail,
         place: *mut usize,
         items: *mut usize,
         opened: *mut u16,
@@ -67,8 +88,7 @@ pub fn replay(program: &[u8], record: &[u8], lent: &mut Lent) -> Outcome<Counts>
             &mut lent.control,
             &mut lent.registers,
             &mut lent.cells,
-            &mut lent.groups,
-            &mut lent.accesses,
+            &mut lent.trail,
             &mut place,
             &mut counts.items,
             &mut counts.groups,

@@ -2,10 +2,10 @@
 //!
 //! Every case of the corpus and so many generated inputs, each from a start of zeros and from
 //! another one: the same refusal with every lent array as it was, or the same counts, last states,
-//! registers and cells, and the same group and access of each item. Ends with 1 at the first
+//! registers and cells, and the same trail of the items. Ends with 1 at the first
 //! difference.
 
-use linked::{replay, Cells, Counts, Lent};
+use linked::{replay, Cells, Counts, Lent, CELLS, RANKS};
 use second::check::{accept_items, Accepted};
 use second::corpus::Case;
 use second::corpus_reader::{corpus_files, read_file};
@@ -13,7 +13,7 @@ use second::generator::input;
 use second::limits::Outcome;
 use second::machine::{Access, Start};
 use second::program::Program;
-use second::record::read_record;
+use second::record::{read_record, Item};
 use std::path::Path;
 use std::process::ExitCode;
 
@@ -24,24 +24,13 @@ const REFUSALS: usize = 13;
 
 /// A start with another value in each cell.
 fn numbered() -> Cells {
-    let mut cells = [[0; 64]; 8];
+    let mut cells = [[0; CELLS]; RANKS];
     for (row, rank) in cells.iter_mut().enumerate() {
         for (column, cell) in rank.iter_mut().enumerate() {
-            *cell = (row * 64 + column + 1) as u16;
+            *cell = (row * CELLS + column + 1) as u16;
         }
     }
     cells
-}
-
-/// The lent arrays before a call: the start, and marks in all others.
-fn marked(start: &Cells) -> Lent {
-    Lent {
-        control: [MARK as u8; 8],
-        registers: [[MARK; 16]; 8],
-        cells: *start,
-        groups: [MARK; 1024],
-        accesses: [MARK; 1024],
-    }
 }
 
 /// The second program's replay and groups, from a start.
@@ -56,30 +45,29 @@ fn second_accepts(program: &[u8], record: &[u8], start: &Cells) -> Outcome<Accep
     accept_items(program, items, &from)
 }
 
+/// The rank of a command item, and 0 for a pop.
+fn command_rank(item: &Item) -> u16 {
+    item.act.transition().map_or(0, |_| item.act.rank() as u16)
+}
+
 /// An access as the replay tells it.
 fn access_number(access: Access) -> u16 {
-    let address = 64 * (access.cell.rank - 1) + access.cell.cell;
+    let address = CELLS * (access.cell.rank - 1) + access.cell.cell;
     (1 + 2 * address) as u16 + u16::from(access.writes)
 }
 
 /// The lent arrays after an accepted record. What the program does not have stays 0, and its cells as they were.
 fn handed_over(accepted: &Accepted, start: &Cells) -> Lent {
-    let mut lent = Lent {
-        control: [0; 8],
-        registers: [[0; 16]; 8],
-        cells: *start,
-        groups: [0; 1024],
-        accesses: [0; 1024],
-    };
+    let mut lent = Lent::filled(*start, 0);
     for (row, rank) in accepted.run.last.ranks.iter().enumerate() {
-        lent.control[row] = rank.state as u8;
+        lent.control[row] = rank.state as u16;
         lent.registers[row][..rank.registers.len()].copy_from_slice(&rank.registers);
         lent.cells[row][..rank.cells.len()].copy_from_slice(&rank.cells);
     }
     let groups = accepted.grouping.group_of.iter();
     for (item, (step, group)) in accepted.run.steps.iter().zip(groups).enumerate() {
-        lent.groups[item] = *group as u16;
-        lent.accesses[item] = step.access.map_or(0, access_number);
+        let access = step.access.map_or(0, access_number);
+        lent.trail[item] = [command_rank(&accepted.items[item]), *group as u16, access];
     }
     lent
 }
@@ -91,7 +79,7 @@ struct Answers([usize; REFUSALS + 1]);
 impl Answers {
     /// Compares both programs on one input, from one start.
     fn compare(&mut self, program: &[u8], record: &[u8], start: &Cells) -> Result<(), String> {
-        let before = marked(start);
+        let before = Lent::filled(*start, MARK);
         let mut lent = before.clone();
         let answer = replay(program, record, &mut lent);
         let (expected, after) = match second_accepts(program, record, start) {
@@ -120,7 +108,7 @@ impl Answers {
 
     /// Compares them from both starts.
     fn both_starts(&mut self, name: &str, program: &[u8], record: &[u8]) -> Result<(), String> {
-        for start in [[[0; 64]; 8], numbered()] {
+        for start in [[[0; CELLS]; RANKS], numbered()] {
             self.compare(program, record, &start)
                 .map_err(|fault| format!("{name}: {fault}"))?;
         }

@@ -1,11 +1,12 @@
 //! The time for each item of the proved replay and of the second program, on the same records.
 //!
-//! Prints a line for each length of record, and whether the replay's time grows in step with the
-//! items. Ends with 1 if it does not, or if the two programs disagree on a record.
+//! Prints a line for each length of record, the time of a call on run b, which is one small record,
+//! and whether the replay's time grows in step with the items. Ends with 1 if it does not, or if the
+//! two programs disagree on a record.
 
 mod input;
 
-use linked::{Cells, Counts, Lent};
+use linked::{Cells, Counts, Lent, CELLS, RANKS};
 use second::check::last_cells;
 use second::limits::Outcome;
 use second::machine::Start;
@@ -17,6 +18,11 @@ use std::time::Instant;
 
 /// The lengths of the records.
 const LENGTHS: [usize; 3] = [128, 512, 1024];
+/// Run b of document 01: the sample that `make sample` lists.
+const RUN_B: (&[u8], &[u8]) = (
+    include_bytes!("../../../../../samples/neighbour/run.prg"),
+    include_bytes!("../../../../../samples/neighbour/run.rec"),
+);
 /// Batches of each program, of which the median is taken; the two programs take turns.
 const BATCHES: usize = 21;
 /// Items in a batch: as many calls as make so many.
@@ -29,7 +35,7 @@ const MOST_GROWTH: f64 = 1.5;
 const MEASURED: &str = "\
 One item in three is a transfer's command; 8 ranks with 4 queues each; every place and value is given.
 first:  lellmusu_replay of crates/replay_entry, proved: from program and record bytes to the last cells, registers and
-        states, and each item's group and access. The start is copied into the lent cells before each call, within
+        states, and each item's row of the trail. The start is copied into the lent cells before each call, within
         the time; no other lent array is cleared.
 second: tests/second: Program::read, read_record, replay from the same start, last_cells: from the same bytes to the
         same cells. It keeps a step for each item and forms no groups. Built for release, without the overflow checks
@@ -50,7 +56,7 @@ impl Input {
     fn new(items: usize) -> Input {
         let program = input::program();
         let start = input::start();
-        let mut cells = [[0; 64]; 8];
+        let mut cells = [[0; CELLS]; RANKS];
         for (row, rank) in cells.iter_mut().zip(&start.0) {
             row.copy_from_slice(&rank.cells);
         }
@@ -61,6 +67,27 @@ impl Input {
             start,
             cells,
         }
+    }
+
+    /// Run b, from a start of zeros.
+    fn run_b() -> Outcome<Input> {
+        let (program, record) = RUN_B;
+        let read = Program::read(program)?;
+        Ok(Input {
+            program: program.to_vec(),
+            record: record.to_vec(),
+            items: read_record(record, &read)?.len(),
+            start: Start::zero(&read),
+            cells: [[0; CELLS]; RANKS],
+        })
+    }
+
+    /// The program's own cells among the lent ones, rank 1 first.
+    fn own_cells(&self, lent: &Lent) -> Vec<u16> {
+        let own = lent.cells.iter().zip(&self.start.0);
+        own.flat_map(|(row, rank)| &row[..rank.cells.len()])
+            .copied()
+            .collect()
     }
 
     /// The proved replay, with the start copied into the lent cells first.
@@ -83,7 +110,7 @@ impl Input {
             (Err(refusal), _) => format!("the first program refuses: {refusal:?}"),
             (_, Err(refusal)) => format!("the second program refuses: {refusal:?}"),
             (Ok(counts), _) if counts.items != self.items => format!("the first has {counts:?}"),
-            (_, Ok(cells)) if cells != lent.cells.concat() => "the last cells differ".to_string(),
+            (_, Ok(cells)) if cells != self.own_cells(lent) => "the last cells differ".to_string(),
             _ => return true,
         };
         eprintln!("bench: {} items: {fault}", self.items);
@@ -133,19 +160,27 @@ fn table(inputs: &[Input], lent: &mut Lent) -> Vec<f64> {
     inputs.iter().map(line).collect()
 }
 
+/// Measures run b and prints what one call costs.
+fn call_of_run_b(input: &Input, lent: &mut Lent) {
+    let (first, second) = input.measure(lent);
+    let call = |each: f64| each * input.items as f64;
+    let (first, second, ratio) = (call(first), call(second), first / second);
+    println!("run b, {} items: a call costs first {first:.0} ns, second {second:.0} ns, first/second {ratio:.2}", input.items);
+}
+
 fn main() -> ExitCode {
-    let mut lent = Lent {
-        control: [0; 8],
-        registers: [[0; 16]; 8],
-        cells: [[0; 64]; 8],
-        groups: [0; 1024],
-        accesses: [0; 1024],
-    };
+    let mut lent = Lent::filled([[0; CELLS]; RANKS], 0);
     let inputs = LENGTHS.map(Input::new);
-    if !inputs.iter().all(|input| input.agreed(&mut lent)) {
+    let run_b = Input::run_b().expect("the second program reads run b");
+    if !inputs
+        .iter()
+        .chain([&run_b])
+        .all(|input| input.agreed(&mut lent))
+    {
         return ExitCode::FAILURE;
     }
     let times = table(&inputs, &mut lent);
+    call_of_run_b(&run_b, &mut lent);
     let growth = times[2] / times[1];
     let linear = growth <= MOST_GROWTH;
     let verdict = if linear { "ok" } else { "TOO MUCH" };
