@@ -1,62 +1,73 @@
 # `make test` is every test and every proof; `make sample` lists the sample run; `make bench` times the replay.
 
-VECTORS := tests/vectors
-HARNESS := target/second/release/harness
-DEFINITIONS := target/definitions
-SEED ?= 1
-COUNT ?= 1000000
-
 SHELL := bash
 
-.PHONY: test sample soak bench second harness definitions edits linked agree
+VECTORS := tests/vectors
+PROGRAMS := target/second/release
+HARNESS := $(PROGRAMS)/harness
+DEFINITIONS := target/definitions
+REPLAY := target/staticlib/libreplay_entry.a
 
-# The tests, then rt's own gate, from nothing; then the code that it proved, compiled and held to the second program. The gate's last line is the
-# last line printed.
-test: second harness definitions edits
-	@set -o pipefail; log=$$(mktemp); trap 'rm -f $$log' EXIT; \
-	rt ci | tee $$log && $(MAKE) --no-print-directory agree COUNT=20000 && tail -n 1 $$log
+# Generated inputs of `harness` and `agree`; more of them: make harness SEED=7 COUNT=1000000
+SEED ?= 1
+COUNT ?= 20000
+
+# What `test` runs after rt's own gate, in turn.
+PARTS := second harness definitions edits agree
+
+.PHONY: test sample bench second harness definitions edits agree programs linked
+
+# Every proof and must-fail edit from nothing, then the tests, which stand on what was proved. Each part's seconds are printed, and the gate's
+# last line is the last line.
+test:
+	@set -e -o pipefail; log=$$(mktemp); trap 'rm -f $$log' EXIT; \
+	rt ci | tee $$log; seconds="rt ci $$SECONDS"; \
+	for part in $(PARTS); do \
+		begun=$$SECONDS; $(MAKE) --no-print-directory $$part; seconds+=", $$part $$((SECONDS - begun))"; \
+	done; \
+	echo "seconds: $$seconds"; tail -n 1 $$log
+
+# The second program's harness and the writer of theorems; cargo builds what has changed.
+programs:
+	cd tests/second && cargo build --release --quiet
+	cd tests/definitions && cargo build --release --quiet
 
 # The second program's own tests.
 second:
 	cd tests/second && cargo test --release --quiet -- --show-output
 
 # The harness over the corpus and over generated inputs.
-harness:
-	cd tests/second && cargo build --release --quiet
+harness: programs
 	$(HARNESS) corpus $(VECTORS)
-	$(HARNESS) generated 1 20000
+	$(HARNESS) generated $(SEED) $(COUNT)
 
 # The corpus's shorter cases, computed by the definitions.
-definitions:
-	cd tests/definitions && cargo build --release --quiet
+definitions: programs
 	rm -rf $(DEFINITIONS)
-	target/second/release/definitions . $(DEFINITIONS) $(VECTORS)/runs.txt $(VECTORS)/slips.txt $(VECTORS)/table.txt
-	cd $(DEFINITIONS) && rt check cases >check.log 2>&1 || { cat check.log; exit 1; }
+	$(PROGRAMS)/definitions . $(DEFINITIONS) $(VECTORS)/*.txt
+	cd $(DEFINITIONS) && rt check >check.log 2>&1 || { cat check.log; exit 1; }
 	@tail -n 1 $(DEFINITIONS)/check.log
 
 # Edits of the definitions that the theorems must refuse.
 edits:
 	tests/edits/run
 
-# The proved replay as a static library, and the programs that link it.
-linked:
+# The proved replay as a static library, proved again only if a crate has changed.
+$(REPLAY): crates.txt $(shell find crates -type f -not -path '*/must-fail/*')
 	rt staticlib replay_entry
+
+# The programs that link it.
+linked: $(REPLAY)
 	cd tests/linked && cargo build --release --quiet
 
 # The compiled replay against the second program, on the corpus and on generated inputs.
 agree: linked
-	target/second/release/agree $(VECTORS) $(SEED) $(COUNT)
+	$(PROGRAMS)/agree $(VECTORS) $(SEED) $(COUNT)
 
-# The compiled replay's time for each item, beside the second program's.
+# The compiled replay's time for each item, beside the second program's, and for one small record.
 bench: linked
-	target/second/release/bench
-
-# More generated inputs: make soak SEED=7 COUNT=1000000
-soak:
-	cd tests/second && cargo build --release --quiet
-	$(HARNESS) generated $(SEED) $(COUNT)
+	$(PROGRAMS)/bench
 
 # The listing of the sample run.
-sample:
-	cd tests/second && cargo build --release --quiet
+sample: programs
 	$(HARNESS) listing samples/neighbour
