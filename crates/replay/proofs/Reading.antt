@@ -18,25 +18,16 @@ use Rattle.program.proofs.Programs.{Placed}
 use Rattle.record.specs.declared.reader.RecordRead as RecordRead
 use Rattle.record.specs.Places.{Recorded, recordRead}
 use Rattle.step.specs.Standing.{Loaded}
-use Rattle.replay.specs.Handed.{Readable, acceptItems, acceptRecord}
+use Rattle.replay.specs.Handed.{Readable, acceptItems}
 
-module _ {program starts : List ℕ} {header : Header} {P : Program} (loaded : Loaded program starts header P) (start : Start) (recorded : List ℕ) where
-  pub record-refused : {x : Refusal} → readRecord header recorded ≡ refused x → acceptRecord P start recorded ≡ refused x
-  unfolding acceptRecord
-  record-refused h = rw (loaded .same, h)
-
-  pub record-read : {items : List Item} → readRecord header recorded ≡ ok items → acceptRecord P start recorded ≡ acceptItems P start items
-  unfolding acceptRecord
-  record-read h = rw (loaded .same, h)
-
--- The items of a record that was read for the program.
+-- A program and the items of a record that were both read.
 pub few-items : {header : Header} {recorded : List ℕ} {items : List Item} {count : ℕ} → Recorded header recorded items → length items ≡ count →
     count ≤ maxItems
 few-items r l = rw (← l) (r .limit)
 
-abbrev pub readable : {program starts : List ℕ} {header : Header} {P : Program} {recorded : List ℕ} {items : List Item} {count : ℕ} →
+abbrev pub both-read : {program starts : List ℕ} {header : Header} {P : Program} {recorded : List ℕ} {items : List Item} {count : ℕ} →
     Loaded program starts header P → Recorded header recorded items → length items ≡ count → Readable program starts header recorded count
-readable {P = P} {items = items} loaded r l =
+both-read {P = P} {items = items} loaded r l =
     record { P = P; loaded = loaded; items = items; from = r .items-from; counted = l; few = few-items r l }
 
 -- A record that the reader refuses.
@@ -44,14 +35,20 @@ pub record-unreadable : (m : Result (List Item)) {x : Refusal} → RecordRead.th
 record-unreadable (ok items) h = let z : _≡_ {A = ℕ} 0 1 = cc in absurd (omega arith)
 record-unreadable (refused y) h = cc
 
+-- The definition's `accept`, where the program or the record is refused, and where both are read.
 module _ (start : Start) (program recorded : List ℕ) where
   pub program-refused : {x : Refusal} → readProgram program ≡ refused x → accept start program recorded ≡ refused x
   unfolding accept
   program-refused h = rw h
 
-  pub program-read : {P : Program} → readProgram program ≡ ok P → accept start program recorded ≡ acceptRecord P start recorded
-  unfolding accept acceptRecord acceptItems
-  program-read h = rw h
+  module _ {P : Program} {header : Header} (read : readProgram program ≡ ok P) (same : P .header ≡ header) where
+    pub record-refused : {x : Refusal} → readRecord header recorded ≡ refused x → accept start program recorded ≡ refused x
+    unfolding accept
+    record-refused h = rw (read, same, h)
+
+    pub record-read : {items : List Item} → readRecord header recorded ≡ ok items → accept start program recorded ≡ acceptItems P start items
+    unfolding accept acceptItems
+    record-read h = rw (read, same, h)
 
 -- A program that was read, with where its transitions start.
 pub placed-loaded : {program starts : List ℕ} {header : Header} {P : Program} → readProgram program ≡ ok P → Placed program header starts P →

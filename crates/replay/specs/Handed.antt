@@ -8,7 +8,6 @@ use Rattle.model.specs.declared.Item.{Item}
 use Rattle.model.specs.Limits.{maxItems}
 use Rattle.model.specs.Refusals.{Result, ok, refused, _>>=_}
 use Rattle.model.specs.Programs.{Program}
-use Rattle.model.specs.Records.{readRecord}
 use Rattle.model.specs.Machine.{Start}
 use Rattle.model.specs.Replay.{replay}
 use Rattle.model.specs.Checks.{Accepted}
@@ -59,15 +58,9 @@ pub record Readable (program starts : List ℕ) (header : Header) (recorded : Li
   pub counted : length items ≡ count
   pub few : count ≤ maxItems
 
--- The definition's `accept` once the program is read, and once the record is.
+-- The definition's `accept` once the program and the record are read.
 unfoldable pub acceptItems : Program → Start → List Item → Result Accepted
 unfolding replay
 acceptItems P start items = do
   run ← replay P start items
   ok (record { program = P; run = run })
-
-unfoldable pub acceptRecord : Program → Start → List ℕ → Result Accepted
-unfolding readRecord acceptItems
-acceptRecord P start recorded = do
-  items ← readRecord (P .header) recorded
-  acceptItems P start items

@@ -26,10 +26,8 @@ use queues::ending::all_empty;
 use record::reader::RecordRead;
 use record::reader::read_record;
 ghost use Rattle.model.specs.Checks.{accept};
-ghost use Rattle.model.specs.Programs.{Program};
 ghost use Rattle.memory.specs.Copies.{startIn};
-ghost use Rattle.step.specs.Standing.{Loaded};
-ghost use Rattle.replay.specs.Handed.{Readable, HandsOver, lent, acceptItems, acceptRecord};
+ghost use Rattle.replay.specs.Handed.{Readable, HandsOver, lent, acceptItems};
 
 // An accepted record of a readable program: the program's numbers, how many items the record has, and how many groups they form; or the refusal.
 pub enum Acceptance {
@@ -105,38 +103,6 @@ fn replay_items(
     }
 }
 
-// A record for a program that was read.
-fn replay_record(
-    program: &[u8],
-    starts: &Starts,
-    header: Header,
-    recorded: &[u8],
-    control: &mut Control,
-    registers: &mut Registers,
-    cells: &mut Cells,
-    trail: &mut Trail,
-) -> Acceptance
-    ensures { λ r. ⌜ ((P : Program) → Loaded (now (program .entry)) (now (starts .entry)) header P →
-        HandsOver (acceptRecord P (startIn (now (cells .entry))) (now (recorded .entry)))
-        (lent (now (control .entry)) (now (registers .entry)) (now (cells .entry)) (now (trail .entry)))
-        (lent (now (control .exit)) (now (registers .exit)) (now (cells .exit)) (now (trail .exit))) r) ⌝ }
-{
-    match read_record(recorded, header) {
-        RecordRead::Readable { count } => replay_items(
-            program,
-            starts,
-            header,
-            recorded,
-            count,
-            control,
-            registers,
-            cells,
-            trail,
-        ),
-        RecordRead::Refused(refusal) => Acceptance::Refused(refusal),
-    }
-}
-
 // Replays a record on a program. The cells hold the start. At acceptance they hold the last contents, `control` and `registers` the last states and
 // registers, and row i of `trail` tells of item i: its rank if it is a command and else 0; its group; and its access, 0 for none and else
 // 1 + 2 * (CELLS * (rank - 1) + cell), plus 1 if it writes. The other rows are 0 then. On a refusal nothing lent changes.
@@ -156,16 +122,20 @@ pub fn replay(
     let answer = read.answer;
     let starts = read.starts;
     match answer {
-        ReadAnswer::Readable(header) => replay_record(
-            program,
-            &starts,
-            header,
-            recorded,
-            control,
-            registers,
-            cells,
-            trail,
-        ),
         ReadAnswer::Refused(refusal) => Acceptance::Refused(refusal),
+        ReadAnswer::Readable(header) => match read_record(recorded, header) {
+            RecordRead::Refused(refusal) => Acceptance::Refused(refusal),
+            RecordRead::Readable { count } => replay_items(
+                program,
+                &starts,
+                header,
+                recorded,
+                count,
+                control,
+                registers,
+                cells,
+                trail,
+            ),
+        },
     }
 }
