@@ -1,5 +1,5 @@
--- Readers. A reader followed by a reader stops with the first one's refusal, or goes on at the place after what it found. Hence a rule for each way
--- in which readers are put together (`Finds`): what holds of all that they find.
+-- Readers: what a byte, a word, a judged field and so many of one kind say of the bytes if they are found, and a rule for each way in which readers
+-- are put together (`Finds`): what holds of all that they find.
 use Prim.Native.Nat.{ℕ, zero, suc, _+_, _*_, _<_}
 use mathlib.Core.Path.{_≡_, refl, sym, ap, subst, _∙_}
 use mathlib.Core.Bool.{Bool, true, false, false≢true}
