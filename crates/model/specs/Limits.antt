@@ -30,6 +30,10 @@ maxTokens = 15
 abbrev pub maxItems : ℕ
 maxItems = 1_024
 
+-- The arrows of a record: for each item at most one by program order and two by conflict.
+abbrev pub maxEdges : ℕ
+maxEdges = 3_072
+
 -- A byte has so many values.
 abbrev pub byteValues : ℕ
 byteValues = 256
