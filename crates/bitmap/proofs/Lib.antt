@@ -1,0 +1,5 @@
+pub mod Bits
+pub mod Taking
+pub mod Changes
+pub mod FirstWord
+pub mod Holding
