@@ -10,6 +10,7 @@ pub mod Queues
 pub mod Status
 pub mod Standings
 pub mod Rows
+pub mod Bounds
 pub mod Groups
 pub mod GroupMoves
 pub mod Shapes
