@@ -1,0 +1,3 @@
+pub mod Told
+pub mod Drawn
+pub mod Drawing
