@@ -1,0 +1,13 @@
+pub mod Selecting
+pub mod Degrees
+pub mod Lowest
+pub mod ByGroup
+pub mod Indexes
+pub mod Lists
+pub mod Ready
+pub mod Stands
+pub mod Releases
+pub mod Simulation
+pub mod Whole
+pub mod Left
+pub mod Cases

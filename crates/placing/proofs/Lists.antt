@@ -1,0 +1,71 @@
+-- The list of a group has the arrows that come from it, each once: so it counts what they count.
+use Prim.Native.Nat.{ℕ, zero, suc, _<_}
+use mathlib.Core.Path.{_≡_, refl, sym, ap, _∙_}
+use mathlib.Core.Bool.{true, false}
+use mathlib.Core.List.{List, [], _∷_, _++_, List·Memᴰ·not-nil, List·Memᴰ·cases-cons}
+use mathlib.Core.Logic.{⊎-elim}
+use lib.Dec.{ltb, eqb}
+use borrow.Author.Tests.{ltb-true, eqb-true, eqb-false, eq-eqb, ne-eqb}
+use Rattle.model.specs.Choice.{select, numbersFrom}
+use Rattle.model.specs.HappensBefore.{Edge}
+use Rattle.model.proofs.Laws.{decided, and-true}
+use Rattle.model.proofs.Selections.{select-own, select-other, count-own, count-other}
+use Rattle.memory.specs.Tables.{Table}
+use Rattle.graph.specs.Edges.{edgeAt, sourceAt, targetAt, among}
+use Rattle.ordering.proofs.Lists.{_∈_}
+use Rattle.placing.specs.Placed.{inDegree}
+use Rattle.placing.specs.Standing.{graphTo, numbersOut, countInto}
+use Rattle.placing.proofs.Indexes.{graph-more, graph-kept}
+
+module _ (n : ℕ) (table : Table) (g h : ℕ) where
+  abbrev fromOne : List Edge → List Edge
+  fromOne = select (λ e. eqb (e .from) g)
+
+  -- One arrow more, from the group, counts on both sides.
+  own-counted : (k : ℕ) (numbers : List ℕ) (edges : List Edge) → countInto table numbers h ≡ inDegree edges h →
+      countInto table (k ∷ numbers) h ≡ inDegree (edges ++ edgeAt table k ∷ []) h
+  unfolding countInto inDegree select
+  own-counted k numbers edges same =
+      decided (eqb (targetAt table k) h)
+      (λ t. rw t (ap suc same ∙ sym (count-own (λ e. eqb (e .to) h) edges (edgeAt table k) t)))
+      (λ t. rw t (same ∙ sym (count-other (λ e. eqb (e .to) h) edges (edgeAt table k) t)))
+
+  -- No arrow, and one arrow more.
+  list-none : countInto table (numbersOut n table 0 g) h ≡ inDegree (fromOne (graphTo n table 0)) h
+  unfolding numbersOut numbersFrom countInto inDegree select
+  list-none = refl
+
+  list-more : (k : ℕ) → countInto table (numbersOut n table k g) h ≡ inDegree (fromOne (graphTo n table k)) h →
+      countInto table (numbersOut n table (suc k) g) h ≡ inDegree (fromOne (graphTo n table (suc k))) h
+  unfolding numbersOut
+  list-more k same =
+      decided (among n (edgeAt table k))
+      (λ t. decided (eqb g (sourceAt table k))
+      (λ u.
+      let e : g ≡ sourceAt table k = eqb-true g (sourceAt table k) u in
+      let from : eqb (sourceAt table k) g ≡ true = eq-eqb (sourceAt table k) g (sym e) in
+      rw (t, u, ← e, graph-more n table k t, select-own (λ d. eqb (d .from) g) (graphTo n table k) (edgeAt table k) from)
+      (own-counted k (numbersOut n table k g) (fromOne (graphTo n table k)) same))
+      (λ u.
+      let ne : ¬ (g ≡ sourceAt table k) = eqb-false g (sourceAt table k) u in
+      let from : eqb (sourceAt table k) g ≡ false = ne-eqb (sourceAt table k) g (λ e. ne (sym e)) in
+      rw (t, u, graph-more n table k t, select-other (λ d. eqb (d .from) g) (graphTo n table k) (edgeAt table k) from) same))
+      (λ t. rw (t, graph-kept n table k t) same)
+
+  pub list-counts : (k : ℕ) → countInto table (numbersOut n table k g) h ≡ inDegree (fromOne (graphTo n table k)) h
+  list-counts zero = list-none
+  list-counts (suc k) = list-more k (list-counts k)
+
+-- They lead to groups.
+pub list-within : (n : ℕ) (table : Table) (k g edge : ℕ) → edge ∈ numbersOut n table k g → targetAt table edge < n
+unfolding numbersOut
+list-within n table zero g edge m = absurd (List·Memᴰ·not-nil m)
+list-within n table (suc k) g edge m =
+    decided (among n (edgeAt table k))
+    (λ t. decided (eqb g (sourceAt table k))
+    (λ u. ⊎-elim
+    (λ e. rw e (ltb-true (targetAt table k) n (and-true (ltb (sourceAt table k) n) (ltb (targetAt table k) n) t .1)))
+    (λ r. list-within n table k (sourceAt table k) edge r)
+    (List·Memᴰ·cases-cons (rw (t, u) at m)))
+    (λ u. list-within n table k g edge (rw (t, u) at m)))
+    (λ t. list-within n table k g edge (rw t at m))

@@ -1,0 +1,5 @@
+pub mod Placed
+pub mod Indexes
+pub mod Releases
+pub mod Turns
+pub mod Standing
