@@ -1,0 +1,4 @@
+pub mod Found
+pub mod Predecessors
+pub mod Walks
+pub mod Turning
