@@ -1,4 +1,4 @@
-# `make test` is every test and every proof; `make sample` lists the sample run; `make bench` times the replay.
+# `make test` is every test and every proof; `make sample` lists the sample run; `make bench` times the proved code.
 
 SHELL := bash
 
@@ -6,7 +6,7 @@ VECTORS := tests/vectors
 PROGRAMS := target/second/release
 HARNESS := $(PROGRAMS)/harness
 DEFINITIONS := target/definitions
-REPLAY := target/staticlib/libreplay_entry.a
+ENTRIES := target/staticlib/libentries.a
 
 # Generated inputs of `harness` and `agree`; more of them: make harness SEED=7 COUNT=1000000
 SEED ?= 1
@@ -52,19 +52,19 @@ definitions: programs
 edits:
 	tests/edits/run
 
-# The proved replay as a static library, proved again only if a crate has changed.
-$(REPLAY): crates.txt $(shell find crates -type f -not -path '*/must-fail/*')
-	rt staticlib replay_entry
+# The proved replay and verdict as a static library, proved again only if a crate has changed.
+$(ENTRIES): crates.txt $(shell find crates -type f -not -path '*/must-fail/*')
+	rt staticlib entries
 
 # The programs that link it.
-linked: $(REPLAY)
+linked: $(ENTRIES)
 	cd tests/linked && cargo build --release --quiet
 
-# The compiled replay against the second program, on the corpus and on generated inputs.
+# The compiled replay and verdict against the second program, on the corpus and on generated inputs.
 agree: linked
 	$(PROGRAMS)/agree $(VECTORS) $(SEED) $(COUNT)
 
-# The compiled replay's time for each item, beside the second program's, and for one small record.
+# The compiled code's times beside the second program's.
 bench: linked
 	$(PROGRAMS)/bench
 

@@ -1,10 +1,10 @@
-//! Links the static library that `rt staticlib replay_entry` writes.
+//! Links the static library that `rt staticlib entries` writes.
 
 /// Where it is written, from this package's folder: a relative path, so that a copy of the repository links its own.
 const FOLDER: &str = "../../target/staticlib";
 
 fn main() {
     println!("cargo:rustc-link-search=native={FOLDER}");
-    println!("cargo:rustc-link-lib=static=replay_entry");
-    println!("cargo:rerun-if-changed={FOLDER}/libreplay_entry.a");
+    println!("cargo:rustc-link-lib=static=entries");
+    println!("cargo:rerun-if-changed={FOLDER}/libentries.a");
 }

@@ -1,9 +1,14 @@
-//! The one place where the proved replay's entry is called, and the one place with `unsafe`.
+//! The one place where the proved entries are called, and the one place with `unsafe`.
 
 use second::limits::{refuse, Outcome};
+use second::order::Verdict;
 
-/// What the entry returns for an accepted record.
+/// What the replay's entry returns for an accepted record.
 const ACCEPTED: u8 = 0;
+/// What the verdict's entry returns for an order.
+const ORDER: u8 = 0;
+/// What it returns for a ring.
+const RING: u8 = 255;
 
 /// Document 01's limits: ranks, cells and registers of a rank, items of a record.
 pub const RANKS: usize = 8;
@@ -55,7 +60,7 @@ pub struct Counts {
 }
 
 extern "C" {
-    /// `lellmusu_replay` of `crates/replay_entry`; a slice is a pointer and a length there.
+    /// `lellmusu_replay` of `crates/entries`; a slice is a pointer and a length there.
     fn lellmusu_replay(
         program: *const u8,
         program_length: usize,
@@ -68,6 +73,15 @@ extern "C" {
         place: *mut usize,
         items: *mut usize,
         opened: *mut u16,
+    ) -> u8;
+
+    /// `lellmusu_verdict` of `crates/entries`.
+    fn lellmusu_verdict(
+        trail: *const Trail,
+        items: usize,
+        groups: u16,
+        listed: *mut [u16; ITEMS],
+        count: *mut usize,
     ) -> u8;
 }
 
@@ -99,4 +113,53 @@ pub fn replay(program: &[u8], record: &[u8], lent: &mut Lent) -> Outcome<Counts>
     } else {
         refuse(number, place)
     }
+}
+
+/// The groups that a verdict lists, and how many they are.
+#[derive(Debug, Clone, PartialEq, Eq)]
+pub struct Listed {
+    /// Whether they are a ring and not an order.
+    pub cyclic: bool,
+    /// How many they are.
+    pub count: usize,
+    /// The groups, and 0 in the other entries.
+    pub groups: [u16; ITEMS],
+}
+
+impl Listed {
+    /// The same, as the second program has it.
+    pub fn verdict(&self) -> Verdict {
+        let groups = self.groups[..self.count].iter().map(|&group| group.into());
+        if self.cyclic {
+            Verdict::Ring(groups.collect())
+        } else {
+            Verdict::Order(groups.collect())
+        }
+    }
+}
+
+/// What the arrows of a trail come to, for these counts of items and groups.
+pub fn verdict(trail: &Trail, counts: Counts) -> Listed {
+    let mut listed = Listed {
+        cyclic: false,
+        count: 0,
+        // No group has this number, so an entry that is not written is seen.
+        groups: [u16::MAX; ITEMS],
+    };
+    // Each pointer comes from a reference of its own.
+    let number = unsafe {
+        lellmusu_verdict(
+            trail,
+            counts.items,
+            counts.groups,
+            &mut listed.groups,
+            &mut listed.count,
+        )
+    };
+    assert!(
+        number == ORDER || number == RING,
+        "the verdict's entry returns {number}"
+    );
+    listed.cyclic = number == RING;
+    listed
 }

@@ -1,11 +1,11 @@
-//! Holds the proved replay, as it was compiled, to the second program: `agree CORPUS SEED COUNT`.
+//! Holds the proved replay and verdict, as they were compiled, to the second program: `agree CORPUS SEED COUNT`.
 //!
 //! Every case of the corpus and so many generated inputs, each from a start of zeros and from
 //! another one: the same refusal with every lent array as it was, or the same counts, last states,
-//! registers and cells, and the same trail of the items. Ends with 1 at the first
-//! difference.
+//! registers and cells, the same trail of the items, and the same order or ring. Ends with 1 at the
+//! first difference.
 
-use linked::{replay, Cells, Counts, Lent, CELLS, RANKS};
+use linked::{replay, verdict, Cells, Counts, Lent, CELLS, RANKS};
 use second::check::{accept_items, Accepted};
 use second::corpus::Case;
 use second::corpus_reader::{corpus_files, read_file};
@@ -72,9 +72,41 @@ fn handed_over(accepted: &Accepted, start: &Cells) -> Lent {
     lent
 }
 
-/// How often each answer came: 0 for acceptance, else the refusal's number.
+/// How many items and groups an accepted record has.
+fn counts_of(accepted: &Accepted) -> Counts {
+    Counts {
+        items: accepted.items.len(),
+        groups: accepted.grouping.groups.len() as u16,
+    }
+}
+
+/// How often each answer came.
 #[derive(Default)]
-struct Answers([usize; REFUSALS + 1]);
+struct Answers {
+    orders: usize,
+    rings: usize,
+    /// By the refusal's number, from 1.
+    refused: [usize; REFUSALS],
+}
+
+/// Compares the verdicts on an accepted record, and says whether it is a ring.
+fn same_verdict(lent: &Lent, counts: Counts, accepted: &Accepted) -> Result<bool, String> {
+    let listed = verdict(&lent.trail, counts);
+    if listed.verdict() != accepted.verdict {
+        return Err(format!(
+            "the first has {:?}, the second {:?}",
+            listed.verdict(),
+            accepted.verdict
+        ));
+    }
+    if listed.groups[listed.count..]
+        .iter()
+        .any(|&group| group != 0)
+    {
+        return Err(format!("something stands beyond the list: {listed:?}"));
+    }
+    Ok(listed.cyclic)
+}
 
 impl Answers {
     /// Compares both programs on one input, from one start.
@@ -82,15 +114,11 @@ impl Answers {
         let before = Lent::filled(*start, MARK);
         let mut lent = before.clone();
         let answer = replay(program, record, &mut lent);
-        let (expected, after) = match second_accepts(program, record, start) {
-            Err(refusal) => (Err(refusal), before),
-            Ok(accepted) => {
-                let counts = Counts {
-                    items: accepted.items.len(),
-                    groups: accepted.grouping.groups.len() as u16,
-                };
-                (Ok(counts), handed_over(&accepted, start))
-            }
+        let accepted = second_accepts(program, record, start);
+        let expected = accepted.as_ref().map_err(|&refusal| refusal).map(counts_of);
+        let after = match &accepted {
+            Err(_) => before,
+            Ok(accepted) => handed_over(accepted, start),
         };
         if answer != expected {
             return Err(format!(
@@ -102,7 +130,12 @@ impl Answers {
                 "{answer:?}, but the lent arrays differ\nfirst {lent:?}\nsecond {after:?}"
             ));
         }
-        self.0[answer.map_or_else(|refusal| refusal.number as usize, |_| 0)] += 1;
+        let count = match &accepted {
+            Err(refusal) => &mut self.refused[refusal.number as usize - 1],
+            Ok(accepted) if same_verdict(&lent, counts_of(accepted), accepted)? => &mut self.rings,
+            Ok(_) => &mut self.orders,
+        };
+        *count += 1;
         Ok(())
     }
 
@@ -160,10 +193,20 @@ fn main() -> ExitCode {
         eprintln!("agree: {fault}");
         return ExitCode::FAILURE;
     }
-    let [accepted, refused @ ..] = answers.0;
-    println!("agree: {accepted} accepted, and refused by number 1 to {REFUSALS}: {refused:?}");
+    let Answers {
+        orders,
+        rings,
+        refused,
+    } = answers;
+    println!(
+        "agree: {orders} orders, {rings} rings, and refused by number 1 to {REFUSALS}: {refused:?}"
+    );
     // An answer that never came was never compared.
-    if answers.0.contains(&0) {
+    if [orders, rings]
+        .iter()
+        .chain(&refused)
+        .any(|&count| count == 0)
+    {
         eprintln!("agree: some answer never came");
         return ExitCode::FAILURE;
     }

@@ -57,7 +57,7 @@ impl Transfer {
 }
 
 /// A constant.
-fn constant(value: usize) -> Expression {
+pub fn constant(value: usize) -> Expression {
     Expression::Constant(value as u16)
 }
 
@@ -149,8 +149,13 @@ fn acts(program: &Program, items: usize) -> Vec<Act> {
     acts
 }
 
-/// The bytes of a record of so many items, each with its place and value as the replay has them.
+/// The bytes of a record of so many items.
 pub fn record(program: &Program, start: &Start, items: usize) -> Vec<u8> {
+    bytes_of(program, start, acts(program, items))
+}
+
+/// The bytes of a record that does so, each item with its place and value as the replay has them.
+pub fn bytes_of(program: &Program, start: &Start, acts: Vec<Act>) -> Vec<u8> {
     let mut machine = Machine::new(program, start);
     let placed = |act: Act| {
         let step = machine
@@ -162,6 +167,6 @@ pub fn record(program: &Program, start: &Start, items: usize) -> Vec<u8> {
             value: step.access.map(|access| access.value),
         }
     };
-    let items: Vec<Item> = acts(program, items).into_iter().map(placed).collect();
+    let items: Vec<Item> = acts.into_iter().map(placed).collect();
     record_bytes(&items)
 }

@@ -1,9 +1,11 @@
-//! The time for each item of the proved replay and of the second program, on the same records.
+//! The time for each item of the proved replay and of the second program, on the same records; then
+//! the time of the arrows and of what they come to.
 //!
 //! Prints a line for each length of record, the time of a call on run b, which is one small record,
-//! and whether the replay's time grows in step with the items. Ends with 1 if it does not, or if the
-//! two programs disagree on a record.
+//! and whether the first program's time grows in step with the items. Ends with 1 if it does not, or
+//! if the two programs disagree on a record.
 
+mod arrows;
 mod input;
 
 use linked::{Cells, Counts, Lent, CELLS, RANKS};
@@ -34,7 +36,7 @@ const MOST_GROWTH: f64 = 1.5;
 /// What is measured.
 const MEASURED: &str = "\
 One item in three is a transfer's command; 8 ranks with 4 queues each; every place and value is given.
-first:  lellmusu_replay of crates/replay_entry, proved: from program and record bytes to the last cells, registers and
+first:  lellmusu_replay of crates/entries, proved: from program and record bytes to the last cells, registers and
         states, and each item's row of the trail. The start is copied into the lent cells before each call, within
         the time; no other lent array is cleared.
 second: tests/second: Program::read, read_record, replay from the same start, last_cells: from the same bytes to the
@@ -185,9 +187,12 @@ fn main() -> ExitCode {
     let linear = growth <= MOST_GROWTH;
     let verdict = if linear { "ok" } else { "TOO MUCH" };
     println!("first: 1,024 items cost {growth:.2} times what 512 cost twice; at most {MOST_GROWTH:.1} is allowed: {verdict}");
-    if linear {
-        ExitCode::SUCCESS
-    } else {
-        ExitCode::FAILURE
+    match arrows::bench() {
+        Ok(arrows_linear) if linear && arrows_linear => ExitCode::SUCCESS,
+        Ok(_) => ExitCode::FAILURE,
+        Err(fault) => {
+            eprintln!("bench: {fault}");
+            ExitCode::FAILURE
+        }
     }
 }

@@ -9,7 +9,7 @@ use Rattle.model.specs.Checks.{Accepted}
 use Rattle.replay.specs.declared.Acceptance as Acceptance
 use Rattle.replay.specs.declared.Acceptance.{Acceptance}
 use Rattle.replay.specs.Handed.{Lent, HandsOver}
-use Rattle.replay_entry.specs.Reports.{Numbers, Reports}
+use Rattle.entries.specs.Reports.{Numbers, Reports}
 
 module _ {arrays arrays′ : Lent} (numbers : Numbers) {r : Acceptance} where
   pub at-acceptance : (accepted : Result Accepted) {header : Header} {items groups : ℕ} → HandsOver accepted arrays arrays′ r →

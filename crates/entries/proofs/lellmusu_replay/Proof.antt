@@ -1,8 +1,8 @@
--- `replay_entry::lellmusu_replay` meets its contract: in each arm the law of the replay's answer there.
+-- `entries::lellmusu_replay` meets its contract: in each arm the law of the replay's answer there.
 use borrow.Author.Needs.{needs}
-use Rattle.replay_entry.proofs.Reports.{at-acceptance, on-refusal}
-use Rattle.replay_entry.proofs.lellmusu_replay.Statement.{statement}
-use Rattle.replay_entry.proofs.lellmusu_replay.Tie as tie
+use Rattle.entries.proofs.Reports.{at-acceptance, on-refusal}
+use Rattle.entries.proofs.lellmusu_replay.Statement.{statement}
+use Rattle.entries.proofs.lellmusu_replay.Tie as tie
 
 returns : tie.Need-returns
 returns c = at-acceptance _ _ (c .before .before .before .replay .ensures) (c .before .count .given .1)

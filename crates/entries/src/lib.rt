@@ -1,14 +1,20 @@
-// The whole replay for a program in another language that links the static library.
+// The replay, and what its arrows come to, for a program in another language that links the static library.
+use graph::EDGES;
+use graph::ENDPOINTS;
+use graph::Groups;
+use happens_before::edges_of;
 use model::Cells;
 use model::Control;
 use model::Registers;
 use model::Trail;
 use replay::Acceptance;
 use replay::replay;
+use verdicts::verdict;
 ghost use Rattle.model.specs.Checks.{accept};
 ghost use Rattle.memory.specs.Copies.{startIn};
 ghost use Rattle.replay.specs.Handed.{lent};
-ghost use Rattle.replay_entry.specs.Reports.{Reports};
+ghost use Rattle.entries.specs.Reports.{Reports};
+ghost use Rattle.entries.specs.Concludes.{Concludes, concluded};
 
 // What the entry returns for an accepted record: no row of document 01's table has this number.
 const ACCEPTED: u8 = 0;
@@ -49,4 +55,33 @@ pub extern "C" fn lellmusu_replay(
             refusal.number
         }
     }
+}
+
+// What the entry returns for an order and for a ring.
+const ORDER: u8 = 0;
+
+const RING: u8 = 255;
+
+// Draws the arrows between the groups that the first `items` rows of a trail tell of, and says what they come to among so many groups: it returns 0
+// for an order and 255 for a ring, and writes the groups that are listed and how many they are. The other entries of the list are 0 then.
+#[no_mangle]
+pub extern "C" fn lellmusu_verdict(
+    trail: &Trail,
+    items: usize,
+    groups: u16,
+    listed: &mut Groups,
+    count: &mut usize,
+) -> u8
+    ensures { λ r. ⌜ Concludes (concluded groups items (now (trail .entry))) (now (listed .exit)) (now (count .exit)) r ⌝ }
+{
+    let mut edges = [[0; ENDPOINTS]; EDGES];
+    let drawn = edges_of(trail, items, &mut edges);
+    let judged = verdict(groups, &edges, drawn);
+    let found = judged.groups;
+    *listed = found;
+    *count = judged.count;
+    if judged.cyclic {
+        return RING;
+    }
+    ORDER
 }
