@@ -36,14 +36,15 @@ unfoldable pub verdictOn : Replayed → Verdict
 unfolding edgesOf verdict
 verdictOn run = verdict (run .last .opened) (edgesOf (run .events))
 
--- A function of ranks and numbers, below `count`, as a list: "rank 1 first".
-unfoldable pub rankByRank : {A : Type 0} → (ranks count : ℕ) → (ℕ → ℕ → A) → List A
+-- A function of ranks and numbers, below `count`, as a list: of these ranks one after the other, and of all ranks, "rank 1 first".
+unfoldable pub forEachRank : {A : Type 0} → (count : ℕ) → (ℕ → ℕ → A) → (ranks : List ℕ) → List A
 unfolding numbersFrom
-rankByRank {A} ranks count f = go (numbersFrom 1 ranks)
-  where
-    go : List ℕ → List A
-    go [] = []
-    go (r ∷ rest) = map (f r) (numbersFrom 0 count) ++ go rest
+forEachRank count f [] = []
+forEachRank count f (r ∷ rest) = map (f r) (numbersFrom 0 count) ++ forEachRank count f rest
+
+unfoldable pub rankByRank : {A : Type 0} → (ranks count : ℕ) → (ℕ → ℕ → A) → List A
+unfolding numbersFrom forEachRank
+rankByRank ranks count f = forEachRank count f (numbersFrom 1 ranks)
 
 -- "The last cell values, rank 1 first."
 unfoldable pub lastCells : Accepted → List ℕ

@@ -1,0 +1,5 @@
+pub mod Room
+pub mod Pasted
+pub mod Ranks
+pub mod Forms
+pub mod Results
