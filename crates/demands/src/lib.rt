@@ -1,1 +1,1 @@
-// Theorems alone: demands 2 and 3 of byte strings. See proofs/Demands.antt.
+// Theorems alone: the three demands of what the check answers. See specs/Demands.antt.
