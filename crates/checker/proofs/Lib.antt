@@ -1,0 +1,4 @@
+pub mod Concluding
+pub mod Judging
+pub mod Accepting
+pub mod Checking

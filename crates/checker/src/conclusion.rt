@@ -1,0 +1,125 @@
+// What is to be answered and written, for lists of so many entries, before anything is written.
+use graph::EDGES;
+use graph::ENDPOINTS;
+use graph::Groups;
+use happens_before::edges_of;
+use model::Answer;
+use model::Cells;
+use model::Header;
+use model::ITEMS;
+use model::RANKS;
+use model::REGISTERS;
+use model::Refusal;
+use model::TOLD;
+use model::Trail;
+use model::refusals::MEMORY_TOO_SHORT;
+use model::refusals::ORDER_TOO_SHORT;
+use replay::Acceptance;
+use replay::replay;
+use verdicts::verdict;
+ghost use mathlib.Core.Path.{_≡_};
+ghost use Rattle.model.specs.Checks.{checkResult};
+ghost use Rattle.memory.specs.Copies.{startIn};
+ghost use Rattle.checker.specs.Concluded.{answerOf, refusedWith, judgedAs, acceptedWith, verdictTold, Concludes};
+
+// How many entries the lent lists have, for groups and for cells.
+pub struct Room {
+    pub groups: usize,
+    pub cells: usize,
+}
+
+// The answer; the groups that are listed, so many; and how many ranks' cells are listed, and how many of each rank.
+pub struct Concluded {
+    pub answer: Answer,
+    pub count: usize,
+    pub groups: Groups,
+    pub ranks: u16,
+    pub width: u16,
+}
+
+// A refusal, with nothing to write.
+fn refused(refusal: Refusal) -> Concluded
+    ensures { λ r. ⌜ r ≡ refusedWith refusal ⌝ }
+{
+    Concluded {
+        answer: Answer::Refused(refusal),
+        count: 0,
+        groups: [0; ITEMS],
+        ranks: 0,
+        width: 0,
+    }
+}
+
+// An order or a ring, of so many groups.
+fn answer_of(cyclic: bool, count: usize) -> Answer
+    ensures { λ r. ⌜ r ≡ answerOf cyclic count ⌝ }
+{
+    if cyclic {
+        return Answer::Ring(count);
+    }
+    Answer::Order(count)
+}
+
+// What the arrows of an accepted record come to.
+fn judge(trail: &Trail, items: usize, groups: u16, header: Header) -> Concluded
+    ensures { λ r. ⌜ r ≡ judgedAs (verdictTold groups items (now (trail .entry))) (header .ranks) (header .cells) ⌝ }
+{
+    let mut edges = [[0; ENDPOINTS]; EDGES];
+    let drawn = edges_of(trail, items, &mut edges);
+    let judged = verdict(groups, &edges, drawn);
+    let listed = judged.groups;
+    Concluded {
+        answer: answer_of(judged.cyclic, judged.count),
+        count: judged.count,
+        groups: listed,
+        ranks: header.ranks,
+        width: header.cells,
+    }
+}
+
+// An accepted record: "then 14, then 15", and then what its arrows come to.
+fn accepted(room: Room, header: Header, items: usize, groups: u16, trail: &Trail) -> Concluded
+    ensures { λ r. ⌜ r ≡ acceptedWith room header groups (verdictTold groups items (now (trail .entry))) ⌝ }
+{
+    let count = groups as usize;
+    let needed = header.ranks as usize * header.cells as usize;
+    if room.groups < count {
+        return refused(Refusal {
+            number: ORDER_TOO_SHORT,
+            place: count,
+        });
+    }
+    if room.cells < needed {
+        return refused(Refusal {
+            number: MEMORY_TOO_SHORT,
+            place: needed,
+        });
+    }
+    judge(trail, items, groups, header)
+}
+
+// The whole check but for the writing. `cells` holds the start, and then the last cells of an accepted record.
+pub fn conclude(program: &[u8], recorded: &[u8], room: Room, cells: &mut Cells) -> Concluded
+    ensures { λ r. ⌜ Concludes
+        (checkResult (startIn (now (cells .entry))) (now (program .entry)) (now (recorded .entry)) (room .groups) (room .cells))
+        room (now (cells .exit)) r ⌝ }
+{
+    let mut control = [0; RANKS];
+    let mut registers = [[0; REGISTERS]; RANKS];
+    let mut trail = [[0; TOLD]; ITEMS];
+    match replay(
+        program,
+        recorded,
+        &mut control,
+        &mut registers,
+        cells,
+        &mut trail,
+    ) {
+        Acceptance::Refused(refusal) => refused(refusal),
+        Acceptance::Accepted {
+            header,
+            items,
+            groups,
+        } => accepted(room, header, items, groups, &trail),
+    }
+}
