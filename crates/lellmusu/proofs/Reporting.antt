@@ -1,0 +1,37 @@
+-- An answer is read back from its two numbers: a refusal's number is of the table, and so neither an order's nor a ring's.
+use Prim.Native.Nat.{ℕ}
+use mathlib.Core.Path.{_≡_, refl, ap, _∙_}
+use mathlib.Core.Bool.{false}
+use mathlib.Core.List.{List}
+use native.Mathlib.Omega.{arith}
+use lib.Dec.{eqb}
+use borrow.Author.Tests.{ne-eqb}
+use Rattle.model.specs.declared.Answer.{Answer}
+use Rattle.model.specs.declared.Answer.the-variants.{Order, Ring, Refused}
+use Rattle.model.specs.Checks.{Outcome}
+use Rattle.demands.specs.Entries.{bytes}
+use Rattle.checker.specs.Checked.{answering, Checked}
+use Rattle.lellmusu.specs.Reported.{numberOf, valueOf, answerRead, Reported}
+
+module _ {program recorded order cells order′ cells′ : List ℕ} where
+  read-back : (a : Answer) → Checked bytes program recorded order cells (answering a order′ cells′) → answerRead (numberOf a) (valueOf a) ≡ a
+  unfolding answerRead
+  read-back (Order count) checked = refl
+  read-back (Ring count) checked = refl
+  read-back (Refused r) checked =
+      let tabled = checked .meets .demand1 .other-input r refl in
+      let low : eqb (r .number) 0 ≡ false = ne-eqb (r .number) 0 (λ e. omega (arith, tabled .low)) in
+      let high : eqb (r .number) 255 ≡ false = ne-eqb (r .number) 255 (λ e. omega (arith, tabled .high)) in
+      rw (low, high)
+
+  pub reports : {a : Answer} {value number : ℕ} → Checked bytes program recorded order cells (answering a order′ cells′) → value ≡ valueOf a →
+      number ≡ numberOf a → Reported program recorded order cells order′ cells′ value number
+  reports {a} checked value-is number-is =
+      rw (value-is, number-is)
+      (record {
+        returns = ap (λ (o : Outcome). numberOf (o .answer)) (checked .same);
+        counts = ap (λ (o : Outcome). valueOf (o .answer)) (checked .same);
+        lists = ap (λ (o : Outcome). o .order) (checked .same);
+        fills = ap (λ (o : Outcome). o .cells) (checked .same);
+        meets = rw (read-back a checked) (checked .meets);
+      })
