@@ -1,0 +1,168 @@
+/* Runs the neighbour program on threads, records the run, and asks the library what it was. */
+
+#include <stdbool.h>
+#include <stddef.h>
+#include <stdint.h>
+#include <stdio.h>
+#include <stdlib.h>
+#include <string.h>
+
+#include "lellmusu.h"
+#include "neighbour.h"
+#include "record.h"
+#include "run.h"
+
+/* What the program ends with. A refusal would mean that the recorder has a fault. */
+enum { EXIT_ORDER = 0, EXIT_RING = 1, EXIT_REFUSED = 2, EXIT_UNABLE = 3 };
+
+/* What the command line asks for. */
+struct options {
+    struct settings settings;
+    /* The folder that the two files go into, or null. */
+    const char *folder;
+};
+
+/* Reads a decimal number from `least` to `most`. */
+static bool read_number(const char *text, unsigned least, unsigned most, unsigned *number)
+{
+    char *end;
+    if (text[0] < '0' || text[0] > '9') {
+        return false;
+    }
+    const unsigned long read = strtoul(text, &end, 10);
+    if (*end != '\0' || read < least || read > most) {
+        return false;
+    }
+    *number = (unsigned)read;
+    return true;
+}
+
+/* Reads the options after the number of ranks; false if they are not as the usage says. */
+static bool read_flags(int count, char *words[], struct options *options)
+{
+    const unsigned most = most_rounds(options->settings.ranks);
+    for (int i = 0; i < count; i++) {
+        if (strcmp(words[i], "--delay") == 0) {
+            options->settings.late = true;
+        } else if (strcmp(words[i], "--rounds") == 0 && i + 1 < count) {
+            if (!read_number(words[++i], 1, most, &options->settings.rounds)) {
+                return false;
+            }
+        } else if (strcmp(words[i], "--save") == 0 && i + 1 < count) {
+            options->folder = words[++i];
+        } else {
+            return false;
+        }
+    }
+    return true;
+}
+
+/* Reads the command line; false if it is not as the usage says. */
+static bool read_options(int count, char *words[], struct options *options)
+{
+    unsigned ranks;
+    if (count < 2 || !read_number(words[1], FEWEST_RANKS, MOST_RANKS, &ranks)) {
+        return false;
+    }
+    *options = (struct options){.settings = {.ranks = (uint8_t)ranks, .rounds = 1}};
+    return read_flags(count - 2, words + 2, options);
+}
+
+/* Says how the program is called. */
+static void print_usage(void)
+{
+    fprintf(stderr,
+            "usage: recorder RANKS [--delay] [--rounds K] [--save DIR]\n"
+            "  RANKS     2 to 8\n"
+            "  --delay   transfers land late\n"
+            "  --rounds  how often each rank goes through the program, 1 to %d / RANKS\n"
+            "  --save    writes run.prg and run.rec into this folder\n",
+            MOST_ITEMS / ITEMS_A_ROUND);
+}
+
+/* Writes a file into a folder; false, with a message, if that fails. */
+static bool save(const char *folder, const char *name, const uint8_t *bytes, size_t length)
+{
+    char path[4096];
+    const int size = snprintf(path, sizeof path, "%s/%s", folder, name);
+    FILE *file = size > 0 && (size_t)size < sizeof path ? fopen(path, "wb") : NULL;
+    bool saved = false;
+    if (file != NULL) {
+        const bool written = fwrite(bytes, 1, length, file) == length;
+        saved = fclose(file) == 0 && written;
+    }
+    if (!saved) {
+        fprintf(stderr, "recorder: cannot write %s/%s\n", folder, name);
+    }
+    return saved;
+}
+
+/* Writes the two files that the listing program reads. */
+static bool save_run(const char *folder, const uint8_t *program, const struct record *record)
+{
+    return save(folder, "run.prg", program, PROGRAM_BYTES) &&
+           save(folder, "run.rec", record->bytes, record->length);
+}
+
+/* An entry of one of the library's lists: two bytes, the high one first. */
+static unsigned entry(const uint8_t *list, size_t index)
+{
+    return (unsigned)list[2 * index] << 8 | list[2 * index + 1];
+}
+
+/* Prints the groups of an order or ring, and each cell that is not 0 at the end. */
+static void print_lists(const uint8_t *order, size_t groups, const uint8_t *cells, unsigned ranks)
+{
+    for (size_t i = 0; i < groups; i++) {
+        printf("group %u\n", entry(order, i));
+    }
+    for (unsigned i = 0; i < ranks * CELLS; i++) {
+        if (entry(cells, i) != 0) {
+            printf("cell %u %u %u\n", i / CELLS + 1, i % CELLS, entry(cells, i));
+        }
+    }
+}
+
+/* Asks the library about a run, prints its answer, and gives the exit status for it. */
+static int print_answer(const uint8_t *program, const struct record *record)
+{
+    uint8_t order[LELLMUSU_ORDER_BYTES];
+    uint8_t cells[LELLMUSU_CELLS_BYTES];
+    size_t value;
+    const uint8_t answer =
+        lellmusu_check(program, PROGRAM_BYTES, record->bytes, record->length, order, sizeof order,
+                       cells, sizeof cells, &value);
+    switch (answer) {
+    case LELLMUSU_ORDER:
+        printf("order %zu\n", value);
+        print_lists(order, value, cells, program[0]);
+        return EXIT_ORDER;
+    case LELLMUSU_RING:
+        printf("ring %zu\n", value);
+        print_lists(order, value, cells, program[0]);
+        return EXIT_RING;
+    default:
+        printf("refused %u %zu\n", (unsigned)answer, value);
+        return EXIT_REFUSED;
+    }
+}
+
+int main(int count, char *words[])
+{
+    struct options options;
+    struct record record;
+    uint8_t program[PROGRAM_BYTES];
+    if (!read_options(count, words, &options)) {
+        print_usage();
+        return EXIT_UNABLE;
+    }
+    neighbour_program(options.settings.ranks, program);
+    if (!run_program(&options.settings, &record)) {
+        fprintf(stderr, "recorder: cannot make the threads\n");
+        return EXIT_UNABLE;
+    }
+    if (options.folder != NULL && !save_run(options.folder, program, &record)) {
+        return EXIT_UNABLE;
+    }
+    return print_answer(program, &record);
+}
