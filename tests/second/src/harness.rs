@@ -13,8 +13,11 @@ use std::fmt;
 /// A whole check: program, record, order bytes, cell bytes; two bytes an entry, big-endian.
 pub type Subject<'a> = &'a dyn Fn(&[u8], &[u8], &mut [u8], &mut [u8]) -> Answer;
 
+/// Lends fresh lists to some check, calls it on an input, and notes what it does.
+pub type Observer<'a> = &'a dyn Fn(&Input) -> Observed;
+
 /// So many bytes before and after each lent list belong to nobody and must stay.
-const GUARD: usize = 16;
+pub const GUARD: usize = 16;
 
 /// What a check answered, and both lists afterwards with the guards around them.
 #[derive(Clone, PartialEq, Eq)]
@@ -46,12 +49,18 @@ impl fmt::Debug for Observed {
     }
 }
 
+impl fmt::Display for Input {
+    fn fmt(&self, out: &mut fmt::Formatter) -> fmt::Result {
+        writeln!(out, "program {}", to_hex(&self.program))?;
+        writeln!(out, "record {}", to_hex(&self.record))?;
+        writeln!(out, "order bytes {}", self.order_bytes)?;
+        write!(out, "cell bytes {}", self.cell_bytes)
+    }
+}
+
 impl fmt::Display for Disagreement {
     fn fmt(&self, out: &mut fmt::Formatter) -> fmt::Result {
-        writeln!(out, "program {}", to_hex(&self.input.program))?;
-        writeln!(out, "record {}", to_hex(&self.input.record))?;
-        writeln!(out, "order bytes {}", self.input.order_bytes)?;
-        writeln!(out, "cell bytes {}", self.input.cell_bytes)?;
+        writeln!(out, "{}", self.input)?;
         writeln!(
             out,
             "(both lists below have {GUARD} guard bytes before and after)"
@@ -62,20 +71,25 @@ impl fmt::Display for Disagreement {
 }
 
 /// A list of so many bytes in its guards, all filled with bytes that change from place to place.
-fn lent(bytes: usize) -> Vec<u8> {
+pub fn lent(bytes: usize) -> Vec<u8> {
     (0..bytes + 2 * GUARD)
         .map(|at| 0xC0 | (at % 61) as u8)
         .collect()
 }
 
 /// The part of a guarded list that is lent.
-fn inner(list: &mut [u8]) -> &mut [u8] {
+pub(crate) fn inner(list: &mut [u8]) -> &mut [u8] {
     let end = list.len() - GUARD;
     &mut list[GUARD..end]
 }
 
+/// The observer that lends a subject its lists between guard bytes.
+pub fn between_guards<'a>(subject: Subject<'a>) -> impl Fn(&Input) -> Observed + 'a {
+    move |input| observe(subject, input)
+}
+
 /// Lends fresh lists to a subject and notes what it does.
-pub fn observe(subject: Subject, input: &Input) -> Observed {
+fn observe(subject: Subject, input: &Input) -> Observed {
     let mut order = lent(input.order_bytes);
     let mut cells = lent(input.cell_bytes);
     let answer = subject(
@@ -92,14 +106,14 @@ pub fn observe(subject: Subject, input: &Input) -> Observed {
 }
 
 /// Compares a subject with the second program on one input.
-pub fn compare(subject: Subject, input: &Input) -> Result<Answer, Box<Disagreement>> {
+pub fn compare(subject: Observer, input: &Input) -> Result<Answer, Box<Disagreement>> {
     let right = observe(&check_bytes, input);
     agree(subject, input, right)
 }
 
 /// Compares a subject with what is right.
-fn agree(subject: Subject, input: &Input, right: Observed) -> Result<Answer, Box<Disagreement>> {
-    let subject = observe(subject, input);
+fn agree(subject: Observer, input: &Input, right: Observed) -> Result<Answer, Box<Disagreement>> {
+    let subject = subject(input);
     if subject == right {
         return Ok(right.answer);
     }
@@ -111,7 +125,7 @@ fn agree(subject: Subject, input: &Input, right: Observed) -> Result<Answer, Box
 }
 
 /// Compares a subject with the answer a corpus case holds, with even and with odd list lengths.
-pub fn compare_case(subject: Subject, case: &CheckCase) -> Result<Answer, Box<Disagreement>> {
+pub fn compare_case(subject: Observer, case: &CheckCase) -> Result<Answer, Box<Disagreement>> {
     agree(subject, &input_of(case, 1), observed_of(case, 1))?;
     agree(subject, &input_of(case, 0), observed_of(case, 0))
 }

@@ -15,6 +15,7 @@ pub mod generator;
 pub mod groups;
 pub mod harness;
 pub mod judge;
+pub mod judged;
 pub mod limits;
 pub mod listing;
 pub mod machine;

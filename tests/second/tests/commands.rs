@@ -42,6 +42,11 @@ fn bad_arguments_end_with_status_2() {
     assert_bad_input(&["generated", "1"], "usage");
     assert_bad_input(&["generated", "one", "2"], "SEED `one`");
     assert_bad_input(&["generated", "1", "-2"], "COUNT `-2`");
+    assert_bad_input(&["judged"], "usage");
+    assert_bad_input(&["judged", "one"], "SEED `one`");
+    assert_bad_input(&["judged", "1", "2.5"], "COUNT `2.5`");
+    assert_bad_input(&["--guards"], "usage");
+    assert_bad_input(&["--guards", "show", "x"], "usage");
     assert_bad_input(&["write-corpus", "x", "y"], "SEED `y`");
 }
 
@@ -104,6 +109,19 @@ fn the_corpus_and_generated_inputs_agree() {
         text.starts_with("generated: 500 inputs agree, seed 4"),
         "{text}"
     );
+}
+
+#[test]
+fn answers_on_small_records_are_judged() {
+    for option in [&[][..], &["--guards"]] {
+        let output = harness(&[option, &["judged", "4", "500"]].concat());
+        let text = String::from_utf8_lossy(&output.stdout);
+        assert_eq!(output.status.code(), Some(0), "{text}");
+        assert!(
+            text.starts_with("judged: 500 answers hold, seed 4"),
+            "{text}"
+        );
+    }
 }
 
 #[test]

@@ -4,7 +4,7 @@ use second::check::check_bytes;
 use second::corpus::{Case, Expected};
 use second::corpus_reader::{corpus_files, parse, read_file};
 use second::families;
-use second::harness::{check_slip_reader, check_writers, compare_case};
+use second::harness::{between_guards, check_slip_reader, check_writers, compare_case};
 use std::collections::BTreeSet;
 use std::fs;
 use std::path::PathBuf;
@@ -29,7 +29,7 @@ fn the_second_program_agrees_with_every_case() {
     for case in cases() {
         match case {
             Case::Check(case) => {
-                if let Err(disagreement) = compare_case(&check_bytes, &case) {
+                if let Err(disagreement) = compare_case(&between_guards(&check_bytes), &case) {
                     panic!("{}: {disagreement}", case.name);
                 }
                 check_writers(&case).unwrap_or_else(|fault| panic!("{}: {fault}", case.name));

@@ -3,7 +3,7 @@
 use second::check::{check_bytes, Answer};
 use second::generator::input;
 use second::generator::slips::slip_input;
-use second::harness::{compare, Histogram};
+use second::harness::{between_guards, compare, Histogram};
 use second::slip::read_slip;
 
 #[test]
@@ -19,7 +19,7 @@ fn the_generator_is_repeatable() {
 fn every_refusal_number_is_seen_at_many_places() {
     let mut histogram = Histogram::default();
     for index in 0..12_000 {
-        match compare(&check_bytes, &input(5, index)) {
+        match compare(&between_guards(&check_bytes), &input(5, index)) {
             Ok(answer) => histogram.count(answer),
             Err(disagreement) => panic!("seed 5, index {index}: {disagreement}"),
         }

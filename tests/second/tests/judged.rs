@@ -6,8 +6,8 @@ use second::generator::programs::{program, SMALL};
 use second::generator::rng::Rng;
 use second::generator::small_run;
 use second::judge::judge;
+use second::judged::Verdicts;
 use second::machine::Start;
-use second::order::Verdict;
 use second::record::record_bytes;
 
 /// How many small accepted records are judged from document 01's start.
@@ -15,41 +15,21 @@ const RECORDS: u64 = 36_000;
 /// How many are judged from other starts.
 const OTHER_STARTS: u64 = 4_000;
 
-/// How often each kind of verdict was confirmed.
-#[derive(Debug, Default)]
-struct Counts {
-    /// Orders by the groups' numbers.
-    own_orders: usize,
-    /// Orders in which a group comes before one of a lower number.
-    other_orders: usize,
-    /// Rings.
-    rings: usize,
-    /// Orders of no groups.
-    empty_orders: usize,
-}
-
-impl Counts {
-    /// Judges an accepted run and counts its verdict.
-    fn judge(&mut self, accepted: &Accepted, start: &Start, index: u64) {
-        judge(accepted, start).unwrap_or_else(|fault| panic!("index {index}: {fault}"));
-        match &accepted.verdict {
-            Verdict::Order(order) if order.is_empty() => self.empty_orders += 1,
-            Verdict::Order(order) if order.is_sorted() => self.own_orders += 1,
-            Verdict::Order(_) => self.other_orders += 1,
-            Verdict::Ring(_) => self.rings += 1,
-        }
-    }
+/// Judges an accepted run and counts its verdict.
+fn judge_and_count(verdicts: &mut Verdicts, accepted: &Accepted, start: &Start, index: u64) {
+    judge(accepted, start).unwrap_or_else(|fault| panic!("index {index}: {fault}"));
+    verdicts.count(&accepted.verdict);
 }
 
 #[test]
 fn arrows_and_the_exhaustive_judge_agree() {
-    let mut counts = Counts::default();
+    let mut counts = Verdicts::default();
     for index in 0..RECORDS {
         let (program, items) = small_run(&mut Rng::new(1, index));
         let accepted = accept(&program.to_bytes(), &record_bytes(&items))
             .unwrap_or_else(|refusal| panic!("index {index}: {refusal:?}"));
         assert_eq!((&accepted.program, &accepted.items), (&program, &items));
-        counts.judge(&accepted, &Start::zero(&program), index);
+        judge_and_count(&mut counts, &accepted, &Start::zero(&program), index);
     }
     println!("judged: {counts:?}");
     assert!(counts.own_orders >= 10_000, "too few orders");
@@ -75,7 +55,7 @@ fn random_start(rng: &mut Rng, program: &second::program::Program) -> Start {
 
 #[test]
 fn they_agree_from_other_starts_too() {
-    let mut counts = Counts::default();
+    let mut counts = Verdicts::default();
     for index in 0..OTHER_STARTS {
         let rng = &mut Rng::new(2, index);
         let program = program(rng, SMALL);
@@ -84,7 +64,7 @@ fn they_agree_from_other_starts_too() {
         let items = execution(rng, &program, &start, pace);
         let accepted = accept_items(program, items, &start)
             .unwrap_or_else(|refusal| panic!("index {index}: {refusal:?}"));
-        counts.judge(&accepted, &start, index);
+        judge_and_count(&mut counts, &accepted, &start, index);
     }
     println!("judged from other starts: {counts:?}");
     assert!(counts.own_orders + counts.other_orders >= 1_000 && counts.rings >= 1_000);

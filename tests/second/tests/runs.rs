@@ -1,9 +1,9 @@
 //! The runs a to m of document 01, with their whole answers.
 
-use second::check::{answer, check, Answer};
+use second::check::{answer, check, check_bytes, Answer};
 use second::corpus::{Case, CheckCase, Expected};
 use second::corpus_reader::parse;
-use second::harness::{check_writers, compare_case};
+use second::harness::{between_guards, check_writers, compare_case};
 use second::limits::Refusal;
 use second::listing::write_listing;
 
@@ -74,7 +74,7 @@ fn runs_a_to_l_have_their_whole_answers() {
             (case.name.as_str(), words(&case.answer).as_str()),
             (name, answer)
         );
-        if let Err(disagreement) = compare_case(&second::check::check_bytes, case) {
+        if let Err(disagreement) = compare_case(&between_guards(&check_bytes), case) {
             panic!("{name}: {disagreement}");
         }
         check_writers(case).unwrap_or_else(|fault| panic!("{name}: {fault}"));

@@ -3,10 +3,11 @@
 
 mod common;
 
-use common::{assert_caught, first_caught, refused};
+use common::{assert_caught, assert_caught_and_misjudged, first_caught, first_misjudged, refused};
 use second::bytes::fill_words;
 use second::check::{last_cells, Answer};
 use second::groups::{arrows, arrows_of, conflicts, gather, program_order, Pairs};
+use second::harness::Subject;
 use second::limits::Refusal;
 use second::machine::{CommandId, Machine, Run, Start, Step};
 use second::order::{decide, Verdict};
@@ -81,14 +82,21 @@ fn right_step(program: &Program, machine: &mut Machine, item: &Item) -> Result<S
     machine.step(program, item)
 }
 
-/// Fails unless this way to draw arrows is caught.
+/// Fails unless this way to draw arrows is caught, also by the judge, which knows no arrows.
 fn assert_arrows_caught(draw: ArrowMistake) {
-    assert_caught(&|program, record, order, cells| {
+    assert_caught_and_misjudged(&|program, record, order, cells| {
         variant(&right_step, draw, [program, record], [order, cells])
     });
 }
 
-/// Fails unless this way to do items is caught.
+/// Fails unless this way to do items is caught, also on accepted records.
+fn assert_steps_misjudged(step: StepMistake) {
+    assert_caught_and_misjudged(&|program, record, order, cells| {
+        variant(step, &arrows, [program, record], [order, cells])
+    });
+}
+
+/// Fails unless this way to do items is caught, be it on refused records only.
 fn assert_steps_caught(step: StepMistake) {
     assert_caught(&|program, record, order, cells| {
         variant(step, &arrows, [program, record], [order, cells])
@@ -107,10 +115,11 @@ fn filtered(steps: &[Step], group_of: &[usize], keep: fn(bool, bool) -> bool) ->
 
 #[test]
 fn the_parts_put_together_rightly_are_not_caught() {
-    let caught = first_caught(&|program, record, order, cells| {
+    let subject: Subject = &|program, record, order, cells| {
         variant(&right_step, &arrows, [program, record], [order, cells])
-    });
-    assert_eq!(caught, None);
+    };
+    assert_eq!(first_caught(subject), None);
+    assert_eq!(first_misjudged(subject), None);
 }
 
 #[test]
@@ -170,7 +179,9 @@ fn pops_in_program_order() {
 
 #[test]
 fn queue_order_drawn_as_an_arrow() {
-    assert_arrows_caught(&|steps, group_of| {
+    // Program order leads the same way along each queue, so only the ring listed can differ, and
+    // the judge does not ask which ring it is.
+    let draw: ArrowMistake = &|steps, group_of| {
         let mut all = arrows(steps, group_of);
         let mut latest = BTreeMap::new();
         for (item, step) in steps.iter().enumerate() {
@@ -181,13 +192,16 @@ fn queue_order_drawn_as_an_arrow() {
             }
         }
         all
+    };
+    assert_caught(&|program, record, order, cells| {
+        variant(&right_step, draw, [program, record], [order, cells])
     });
 }
 
 #[test]
 fn fetching_at_issue() {
     let fetched: RefCell<BTreeMap<CommandId, u16>> = RefCell::new(BTreeMap::new());
-    assert_steps_caught(&|program, machine, item| {
+    assert_steps_misjudged(&|program, machine, item| {
         let mut step = machine.perform(program, item.act)?;
         if item.act.kind().is_transfer() {
             let requests = machine.rank(step.command.rank).requests.iter().flatten();
@@ -220,7 +234,7 @@ fn compared(item: &Item, step: Step) -> Result<Step, u8> {
 
 #[test]
 fn delivery_at_the_fetch() {
-    assert_steps_caught(&|program, machine, item| {
+    assert_steps_misjudged(&|program, machine, item| {
         let step = machine.step(program, item)?;
         if let Act::PopA { rank, queue } = item.act {
             let latest = machine.rank(rank).deliveries[queue].back().copied();
@@ -234,7 +248,7 @@ fn delivery_at_the_fetch() {
 
 #[test]
 fn a_barrier_that_empties_queues() {
-    assert_steps_caught(&|program, machine, item| {
+    assert_steps_misjudged(&|program, machine, item| {
         let step = machine.step(program, item)?;
         if item.act.kind() == Kind::Bar && machine.open_row.is_none() {
             for rank in 1..=program.ranks {

@@ -155,17 +155,28 @@ fn any_run(rng: &mut Rng) -> (Program, Vec<Item>) {
     run(rng, profile)
 }
 
+/// The input for a run, with lists that are long enough or a little longer.
+fn roomy(rng: &mut Rng, program: &Program, items: &[Item]) -> Input {
+    Input {
+        program: program.to_bytes(),
+        record: record_bytes(items),
+        order_bytes: 2 * group_count(program, items) + rng.below(6),
+        cell_bytes: 2 * program.ranks * program.cells + rng.below(6),
+    }
+}
+
+/// The small input of this number under this seed, for the exhaustive judge; none is damaged.
+pub fn small_input(seed: u64, index: u64) -> Input {
+    let mut rng = Rng::new(seed, index);
+    let (program, items) = small_run(&mut rng);
+    roomy(&mut rng, &program, &items)
+}
+
 /// The input of this number under this seed; half of them are damaged.
 pub fn input(seed: u64, index: u64) -> Input {
     let mut rng = Rng::new(seed, index);
     let (program, mut items) = any_run(&mut rng);
-    let groups = group_count(&program, &items);
-    let mut input = Input {
-        program: program.to_bytes(),
-        record: record_bytes(&items),
-        order_bytes: 2 * groups + rng.below(6),
-        cell_bytes: 2 * program.ranks * program.cells + rng.below(6),
-    };
+    let mut input = roomy(&mut rng, &program, &items);
     if rng.chance(1, 2) {
         let times = *rng.pick(&[1, 1, 1, 2]);
         for _ in 0..times {

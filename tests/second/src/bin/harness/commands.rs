@@ -1,6 +1,6 @@
 //! What each command of the harness does.
 
-use crate::subject::{NAME, SUBJECT};
+use crate::subject::Tested;
 use crate::{Done, Failure};
 use second::bounded::judge_bounded;
 use second::check::{accept, check_bytes, Answer};
@@ -8,9 +8,12 @@ use second::corpus::{Case, CheckCase, Expected, SlipCase};
 use second::corpus_reader::{corpus_files, read_file};
 use second::families;
 use second::generator::slips::slip_input;
-use second::generator::{input, Input};
-use second::harness::{check_slip_reader, check_writers, compare, compare_case, Histogram};
+use second::generator::{input, small_input, Input};
+use second::harness::{
+    between_guards, check_slip_reader, check_writers, compare, compare_case, Histogram,
+};
 use second::judge::{judge, judge_order};
+use second::judged::{judge_observed, Verdicts};
 use second::listing::listing_of_directory;
 use second::machine::Start;
 use second::order::Verdict;
@@ -29,7 +32,7 @@ const SEARCH_LIMIT: usize = 100;
 const SLIP_EVERY: u64 = 6;
 
 /// Compares the subject with every case of the corpus, and the second program's other answers.
-pub fn corpus(directory: &str) -> Done {
+pub fn corpus(tested: &Tested, directory: &str) -> Done {
     let mut histogram = Histogram::default();
     let mut names = BTreeSet::new();
     for file in corpus_files(Path::new(directory)).map_err(Failure::Input)? {
@@ -39,22 +42,27 @@ pub fn corpus(directory: &str) -> Done {
                 return Err(Failure::Input(what));
             }
             match &case {
-                Case::Check(case) => corpus_check(case, &mut histogram)?,
+                Case::Check(case) => corpus_check(tested, case, &mut histogram)?,
                 Case::Slip(case) => corpus_slip(case, &mut histogram)?,
             }
         }
     }
     Ok(format!(
-        "corpus: {} cases agree ({NAME})\n{histogram}",
-        names.len()
+        "corpus: {} cases agree ({})\n{histogram}",
+        names.len(),
+        tested.name
     ))
 }
 
 /// One case of the whole check: subject and second program against the case's answer.
-fn corpus_check(case: &CheckCase, histogram: &mut Histogram) -> Result<(), Failure> {
+fn corpus_check(
+    tested: &Tested,
+    case: &CheckCase,
+    histogram: &mut Histogram,
+) -> Result<(), Failure> {
     let named = |fault: String| Failure::Disagreement(format!("case {}\n{fault}", case.name));
-    let answer = compare_case(SUBJECT, case).map_err(|fault| named(fault.to_string()))?;
-    compare_case(&check_bytes, case)
+    let answer = compare_case(&tested.observe, case).map_err(|fault| named(fault.to_string()))?;
+    compare_case(&between_guards(&check_bytes), case)
         .map_err(|fault| named(format!("the second program differs\n{fault}")))?;
     check_writers(case).map_err(named)?;
     histogram.count(answer);
@@ -70,17 +78,17 @@ fn corpus_slip(case: &SlipCase, histogram: &mut Histogram) -> Result<(), Failure
 }
 
 /// Compares the subject with the second program on generated inputs, and judges their verdicts.
-pub fn generated(seed: u64, count: u64) -> Done {
+pub fn generated(tested: &Tested, seed: u64, count: u64) -> Done {
     let mut histogram = Histogram::default();
     let (mut judged_orders, mut judged_rings) = (0, 0);
     for index in 0..count {
         let input = input(seed, index);
         let named =
             |fault: String| Failure::Disagreement(format!("seed {seed}, index {index}\n{fault}"));
-        let answer = compare(SUBJECT, &input).map_err(|fault| named(fault.to_string()))?;
+        let answer = compare(&tested.observe, &input).map_err(|fault| named(fault.to_string()))?;
         histogram.count(answer);
         if !matches!(answer, Answer::Refused(_)) {
-            match judged(&input).map_err(|fault| named(fault + "\n" + &hexed(&input)))? {
+            match searched(&input).map_err(|fault| named(format!("{fault}\n{input}")))? {
                 Some(Verdict::Order(_)) => judged_orders += 1,
                 Some(Verdict::Ring(_)) => judged_rings += 1,
                 None => {}
@@ -92,12 +100,13 @@ pub fn generated(seed: u64, count: u64) -> Done {
     }
     let judged = format!("judged by search: {judged_orders} orders, {judged_rings} rings");
     Ok(format!(
-        "generated: {count} inputs agree, seed {seed} ({NAME})\n{judged}\n{histogram}"
+        "generated: {count} inputs agree, seed {seed} ({})\n{judged}\n{histogram}",
+        tested.name
     ))
 }
 
 /// Judges an accepted input: every order as a plain run, and records by search if not too long.
-fn judged(input: &Input) -> Result<Option<Verdict>, String> {
+fn searched(input: &Input) -> Result<Option<Verdict>, String> {
     let accepted = accept(&input.program, &input.record)
         .map_err(|refusal| format!("accepted and refused: {refusal:?}"))?;
     let start = Start::zero(&accepted.program);
@@ -137,14 +146,22 @@ fn generated_extras(
     Ok(())
 }
 
-/// An input's bytes for a person.
-fn hexed(input: &Input) -> String {
-    use second::corpus::to_hex;
-    format!(
-        "program {}\nrecord {}",
-        to_hex(&input.program),
-        to_hex(&input.record)
-    )
+/// Judges the subject's own answers on small records by the exhaustive search.
+pub fn judged(tested: &Tested, seed: u64, count: u64) -> Done {
+    let mut verdicts = Verdicts::default();
+    for index in 0..count {
+        let input = small_input(seed, index);
+        let observed = (tested.observe)(&input);
+        let verdict = judge_observed(&input, &observed).map_err(|fault| {
+            let found = format!("{fault}\n{input}\nsubject: {observed:?}");
+            Failure::Disagreement(format!("small record: seed {seed}, index {index}\n{found}"))
+        })?;
+        verdicts.count(&verdict);
+    }
+    Ok(format!(
+        "judged: {count} answers hold, seed {seed} ({})\n{verdicts}",
+        tested.name
+    ))
 }
 
 /// Makes the corpus files.

@@ -8,11 +8,18 @@ mod subject;
 
 use std::io::Write;
 use std::process::ExitCode;
+use subject::Tested;
+
+/// How many small records `judged` takes if it is not told.
+const JUDGED_COUNT: u64 = 80_000;
 
 /// What is printed when the arguments are not understood.
 const USAGE: &str = "usage:
   harness corpus DIR              compare the subject with every case of the corpus
   harness generated SEED COUNT    compare the subject with the second program on generated inputs
+  harness judged SEED [COUNT]     judge the subject's answers on small records by exhaustive search
+  harness --guards ...            one of these three; the first program, if it is linked, is lent
+                                  its lists between guard bytes and not at the ends of pages
   harness write-corpus DIR SEED   make the corpus files (all but the hand-written ones)
   harness show FILE [NAME]        print answer and listing of the cases of a corpus file
   harness listing DIR             print the listing of DIR/run.prg and DIR/run.rec";
@@ -38,16 +45,29 @@ fn number(what: &str, text: &str) -> Result<u64, Failure> {
 /// Runs the command that the arguments name.
 fn run(arguments: &[&str]) -> Done {
     match arguments {
-        ["corpus", directory] => commands::corpus(directory),
-        ["generated", seed, count] => {
-            commands::generated(number("SEED", seed)?, number("COUNT", count)?)
-        }
+        ["corpus" | "generated" | "judged", ..] => test(arguments, &Tested::usual()),
+        ["--guards", arguments @ ..] => test(arguments, &Tested::between_guards()),
         ["write-corpus", directory, seed] => {
             commands::write_corpus(directory, number("SEED", seed)?)
         }
         ["show", file] => commands::show(file, None),
         ["show", file, name] => commands::show(file, Some(name)),
         ["listing", directory] => commands::listing(directory),
+        _ => Err(Failure::Input(USAGE.into())),
+    }
+}
+
+/// Runs a command that tests the subject.
+fn test(arguments: &[&str], tested: &Tested) -> Done {
+    match arguments {
+        ["corpus", directory] => commands::corpus(tested, directory),
+        ["generated", seed, count] => {
+            commands::generated(tested, number("SEED", seed)?, number("COUNT", count)?)
+        }
+        ["judged", seed] => commands::judged(tested, number("SEED", seed)?, JUDGED_COUNT),
+        ["judged", seed, count] => {
+            commands::judged(tested, number("SEED", seed)?, number("COUNT", count)?)
+        }
         _ => Err(Failure::Input(USAGE.into())),
     }
 }

@@ -1,22 +1,58 @@
-//! The subject the harness compares with the second program: the first program, once it is linked.
+//! The subject the harness tests: the first program if it is linked, else the second one itself.
 
 #[cfg(feature = "first")]
 #[path = "first.rs"]
 #[allow(unsafe_code)]
 mod first;
 
-use second::harness::Subject;
+use second::generator::Input;
+use second::harness::{between_guards, Observed, Subject};
 
-/// The first program's C entry.
-#[cfg(feature = "first")]
-pub const SUBJECT: Subject = &first::check;
-/// The second program alone, until the first one's C entry is linked with the feature `first`.
-#[cfg(not(feature = "first"))]
-pub const SUBJECT: Subject = &second::check::check_bytes;
+/// A subject, with the way its lists are lent.
+pub struct Tested {
+    /// What the harness's output calls it.
+    pub name: &'static str,
+    /// Lends it lists, calls it on an input, and notes what it does.
+    pub observe: Box<dyn Fn(&Input) -> Observed>,
+}
 
-/// What the harness's output calls the subject.
-pub const NAME: &str = if cfg!(feature = "first") {
-    "the first program against the second"
-} else {
-    "the second program alone"
-};
+impl Tested {
+    /// The subject as it is tested unless something else is asked for.
+    #[cfg(feature = "first")]
+    pub fn usual() -> Tested {
+        let pages = std::cell::RefCell::new(first::Pages::new());
+        Tested {
+            name: "the first program, lent the ends of pages",
+            observe: Box::new(move |input| pages.borrow_mut().observe(input)),
+        }
+    }
+
+    /// The subject with its lists between guard bytes.
+    #[cfg(feature = "first")]
+    pub fn between_guards() -> Tested {
+        Tested::lent_slices(
+            "the first program, lent lists in guard bytes",
+            &first::check,
+        )
+    }
+
+    /// The subject as it is tested unless something else is asked for.
+    #[cfg(not(feature = "first"))]
+    pub fn usual() -> Tested {
+        Tested::lent_slices("the second program alone", &second::check::check_bytes)
+    }
+
+    /// The subject with its lists between guard bytes: safe code is lent nothing else anyway.
+    #[cfg(not(feature = "first"))]
+    pub fn between_guards() -> Tested {
+        Tested::usual()
+    }
+
+    /// A subject that is lent slices between guard bytes.
+    fn lent_slices(name: &'static str, subject: Subject<'static>) -> Tested {
+        Tested {
+            name,
+            observe: Box::new(between_guards(subject)),
+        }
+    }
+}
