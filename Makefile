@@ -1,21 +1,35 @@
-# `make test` is every test and every proof; `make sample` lists the sample run; `make bench` times the proved code.
+# `make test` is every test and every proof; `make sample` lists the sample run; `make bench` times the whole check; `make library`, `make install`
+# and `make recorder` are for whoever calls the check from C.
 
 SHELL := bash
 
 VECTORS := tests/vectors
 PROGRAMS := target/second/release
 HARNESS := $(PROGRAMS)/harness
+FIRST := target/first/release/harness
 DEFINITIONS := target/definitions
-ENTRIES := target/staticlib/libentries.a
+LIBRARY := target/staticlib/liblellmusu.a
+HEADER := include/lellmusu.h
+RECORDER := target/recorder
 
-# Generated inputs of `harness` and `agree`; more of them: make harness SEED=7 COUNT=1000000
+# Where `install` puts library, header and pkg-config file, and the version that the last tells.
+PREFIX ?= /usr/local
+VERSION := 0.1.0
+
+# How C is compiled here.
+C_FLAGS := -std=c11 -Wall -Wextra -Werror
+CXX_FLAGS := -std=c++11 -Wall -Wextra -Werror
+ADDRESS := -g -O1 -fsanitize=address,undefined -fno-sanitize-recover=all
+THREAD := -g -O1 -fsanitize=thread
+
+# Generated inputs of `first`; more of them: make first SEED=7 COUNT=1000000
 SEED ?= 1
 COUNT ?= 20000
 
 # What `test` runs after rt's own gate, in turn.
-PARTS := second harness definitions edits agree
+PARTS := second harness definitions edits first recorder-test
 
-.PHONY: test sample bench second harness definitions edits agree programs linked
+.PHONY: test sample bench second harness definitions edits first programs library install recorder recorder-test recorder-thread header
 
 # Every proof and must-fail edit from nothing, then the tests, which stand on what was proved. Each part's seconds are printed, and the gate's
 # last line is the last line.
@@ -36,10 +50,9 @@ programs:
 second:
 	cd tests/second && cargo test --release --quiet -- --show-output
 
-# The harness over the corpus and over generated inputs.
+# The second program over the corpus.
 harness: programs
 	$(HARNESS) corpus $(VECTORS)
-	$(HARNESS) generated $(SEED) $(COUNT)
 
 # The corpus's shorter cases, computed by the definitions.
 definitions: programs
@@ -52,22 +65,63 @@ definitions: programs
 edits:
 	tests/edits/run
 
-# The proved replay and verdict as a static library, proved again only if a crate has changed.
-$(ENTRIES): crates.txt $(shell find crates -type f -not -path '*/must-fail/*')
-	rt staticlib entries
+# The whole check as a static library, proved again only if a crate has changed.
+$(LIBRARY): crates.txt $(shell find crates -type f -not -path '*/must-fail/*')
+	rt staticlib lellmusu
 
-# The programs that link it.
-linked: $(ENTRIES)
-	cd tests/linked && cargo build --release --quiet
+# The harness with the library's check in place of the second program's: the corpus, generated inputs, and small records judged by searching all
+# plain runs.
+first: $(LIBRARY)
+	cd tests/second && cargo build --release --quiet --features first --target-dir ../../target/first
+	$(FIRST) corpus $(VECTORS)
+	$(FIRST) generated $(SEED) $(COUNT)
+	$(FIRST) judged $(SEED)
 
-# The compiled replay and verdict against the second program, on the corpus and on generated inputs.
-agree: linked
-	$(PROGRAMS)/agree $(VECTORS) $(SEED) $(COUNT)
-
-# The compiled code's times beside the second program's.
-bench: linked
+# The compiled check's times beside the second program's.
+bench: $(LIBRARY)
+	cd tests/bench && cargo build --release --quiet
 	$(PROGRAMS)/bench
 
 # The listing of the sample run.
 sample: programs
 	$(HARNESS) listing samples/neighbour
+
+# The library that C programs link.
+library: $(LIBRARY)
+
+# Library, header and pkg-config file below PREFIX, which DESTDIR goes before while they are put there.
+install: UNDER = $(DESTDIR)$(abspath $(PREFIX))
+install: library
+	install -d $(UNDER)/lib/pkgconfig $(UNDER)/include
+	install -m 644 $(LIBRARY) $(UNDER)/lib
+	install -m 644 $(HEADER) $(UNDER)/include
+	sed -e 's|@PREFIX@|$(abspath $(PREFIX))|' -e 's|@VERSION@|$(VERSION)|' lellmusu.pc.in >$(UNDER)/lib/pkgconfig/lellmusu.pc
+
+# The example recorder, as it is used, and with sanitizers for its test.
+recorder: $(RECORDER)/recorder
+$(RECORDER)/recorder: SANITIZERS := -O2
+$(RECORDER)/address: SANITIZERS := $(ADDRESS)
+$(RECORDER)/thread: SANITIZERS := $(THREAD)
+$(RECORDER)/recorder $(RECORDER)/address $(RECORDER)/thread: $(wildcard examples/recorder/*.[ch]) $(HEADER) $(LIBRARY)
+	@mkdir -p $(RECORDER)
+	$(CC) $(C_FLAGS) $(SANITIZERS) -Iinclude -pthread -o $@ $(filter %.c,$^) $(LIBRARY)
+
+# What the header says of lent memory, on the sample run.
+$(RECORDER)/lent: tests/recorder/lent.c $(HEADER) $(LIBRARY)
+	@mkdir -p $(RECORDER)
+	$(CC) $(C_FLAGS) $(ADDRESS) -Iinclude -o $@ $< $(LIBRARY)
+
+# The header by itself, in C and in C++.
+header:
+	$(CC) $(C_FLAGS) -pedantic -fsyntax-only -x c $(HEADER)
+	$(CXX) $(CXX_FLAGS) -pedantic -fsyntax-only -x c++ $(HEADER)
+
+# The recorder's runs against the second program, with the sanitizer of addresses and, where there is one, that of threads.
+recorder-test: header programs $(RECORDER)/lent $(RECORDER)/address
+	$(RECORDER)/lent samples/neighbour
+	tests/recorder/run $(RECORDER)/address
+	@if echo 'int main(void) { return 0; }' | $(CC) $(THREAD) -x c -o $(RECORDER)/probe - 2>$(RECORDER)/probe.log && $(RECORDER)/probe; then \
+		$(MAKE) --no-print-directory recorder-thread; else echo 'no sanitizer of threads here'; fi
+
+recorder-thread: $(RECORDER)/thread
+	tests/recorder/run $(RECORDER)/thread
