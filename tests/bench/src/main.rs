@@ -24,7 +24,7 @@ const RUN_B: (&[u8], &[u8]) = (
     include_bytes!("../../../samples/neighbour/run.prg"),
     include_bytes!("../../../samples/neighbour/run.rec"),
 );
-/// Batches of each program, of which the median is taken; the two programs take turns.
+/// Batches of each program, of which the median is taken.
 const BATCHES: usize = 21;
 /// Calls in a batch: of the first program on long records, of the second on them, and of both on run b.
 const FIRST_CALLS: usize = 200;
@@ -156,17 +156,36 @@ impl Input {
         Ok(first)
     }
 
-    /// The medians of both programs' microseconds for a call.
-    fn measure(&mut self, first_calls: usize, second_calls: usize) -> (f64, f64) {
-        let mut first = Vec::new();
-        let mut second = Vec::new();
-        for _ in 0..=BATCHES {
-            first.push(batch(first_calls, || black_box(&mut *self).first()));
-            second.push(batch(second_calls, || black_box(&mut *self).second()));
+    /// A batch of each program on this input: microseconds for a call.
+    fn turn(&mut self, first_calls: usize, second_calls: usize) -> Times {
+        Times {
+            first: batch(first_calls, || black_box(&mut *self).first()),
+            second: batch(second_calls, || black_box(&mut *self).second()),
         }
-        // The first batch of each only warms up.
-        (median(&mut first[1..]), median(&mut second[1..]))
     }
+}
+
+/// Microseconds of both programs for a call.
+#[derive(Clone, Copy)]
+struct Times {
+    first: f64,
+    second: f64,
+}
+
+/// The medians of so many batches. Programs and inputs take turns, so that a slower or faster moment of the machine meets all of them.
+fn measure(inputs: &mut [Input], first_calls: usize, second_calls: usize) -> Vec<Times> {
+    let mut turns: Vec<Vec<Times>> = vec![Vec::new(); inputs.len()];
+    for _ in 0..=BATCHES {
+        for (input, times) in inputs.iter_mut().zip(&mut turns) {
+            times.push(input.turn(first_calls, second_calls));
+        }
+    }
+    let medians = |times: Vec<Times>| Times {
+        // The first batch of each only warms up.
+        first: median(times[1..].iter().map(|times| times.first).collect()),
+        second: median(times[1..].iter().map(|times| times.second).collect()),
+    };
+    turns.into_iter().map(medians).collect()
 }
 
 /// Microseconds for each of so many calls.
@@ -179,7 +198,7 @@ fn batch<T>(calls: usize, mut call: impl FnMut() -> T) -> f64 {
 }
 
 /// The middle one of an odd number of times.
-fn median(times: &mut [f64]) -> f64 {
+fn median(mut times: Vec<f64>) -> f64 {
     times.sort_by(f64::total_cmp);
     times[times.len() / 2]
 }
@@ -195,22 +214,22 @@ fn is_ring(answer: Answer) -> Result<bool, String> {
 
 /// Measures the records of a shape, prints a line for each, and says whether the first program's time grows in step with the items.
 fn measured(shape: &Shape) -> Result<bool, String> {
-    let mut times = Vec::new();
-    for items in LENGTHS {
-        let mut input = Input::of(shape, items);
+    let mut inputs = LENGTHS.map(|items| Input::of(shape, items));
+    for input in &mut inputs {
         if is_ring(input.agreed()?)? != shape.cyclic {
             return Err(format!("{}: not a record of its shape", shape.name));
         }
-        let (first, second) = input.measure(FIRST_CALLS, SECOND_CALLS);
-        let each = 1e3 * first / items as f64;
-        println!(
-            "{:8} {items:5} {first:9.2} {each:8.1} {second:10.1} {:13.3}",
-            shape.name,
-            first / second
-        );
-        times.push(first);
     }
-    let growth = times[1] / times[0];
+    let times = measure(&mut inputs, FIRST_CALLS, SECOND_CALLS);
+    for (items, Times { first, second }) in LENGTHS.into_iter().zip(&times) {
+        let each = 1e3 * first / items as f64;
+        let ratio = first / second;
+        println!(
+            "{:8} {items:5} {first:9.2} {each:8.1} {second:10.1} {ratio:13.3}",
+            shape.name
+        );
+    }
+    let growth = times[1].first / times[0].first;
     let linear = growth <= MOST_GROWTH;
     let verdict = if linear { "ok" } else { "TOO MUCH" };
     println!("{:8} 1,024 items cost {growth:.2} times what 512 cost; at most {MOST_GROWTH:.1} is allowed: {verdict}", shape.name);
@@ -222,7 +241,7 @@ fn run_b() -> Result<(), String> {
     let (program, record) = RUN_B;
     let mut input = Input::new(program.to_vec(), record.to_vec());
     let answer = input.agreed()?;
-    let (first, second) = input.measure(RUN_B_CALLS, RUN_B_CALLS);
+    let Times { first, second } = measure(&mut [input], RUN_B_CALLS, RUN_B_CALLS)[0];
     println!("run b: {answer:?}; a call costs first {first:.2} us, second {second:.2} us, first/second {:.2}", first / second);
     Ok(())
 }
@@ -230,7 +249,7 @@ fn run_b() -> Result<(), String> {
 /// Measures all shapes and run b.
 fn bench() -> Result<bool, String> {
     println!("{MEASURED}");
-    println!("Each time is the median of {BATCHES} batches, the two programs by turns, after a batch to warm up.");
+    println!("Each time is the median of {BATCHES} batches, programs and lengths by turns, after a batch to warm up.");
     println!("         items  first us  ns/item  second us  first/second");
     let mut linear = true;
     for shape in &SHAPES {
