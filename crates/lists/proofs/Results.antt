@@ -1,16 +1,14 @@
 -- What the whole check's lists hold, where there is room: the groups, and the last cells.
-use Prim.Native.Nat.{ℕ, _*_, _/_, _≤_}
-use mathlib.Core.Path.{_≡_, sym, ap, _∙_}
+use Prim.Native.Nat.{ℕ, _/_, _≤_}
+use mathlib.Core.Path.{_≡_, sym}
 use mathlib.Core.List.{List}
 use native.Mathlib.Omega.{arith}
 use lib.ListN.{length}
 use Rattle.model.specs.Limits.{maxRanks, maxCells}
 use Rattle.model.specs.Checks.{fill, rankByRank, entryBytes}
-use Rattle.model.proofs.Laws.{when-true}
 use Rattle.memory.specs.Tables.{Table, cellsSize}
 use Rattle.memory.specs.Tied.{Below}
-use Rattle.lists.specs.Written.{numbersWritten, wordsWritten, cellsListed, cellsWritten, cellWordsWritten}
-use Rattle.lists.proofs.Room.{true-cells-fit}
+use Rattle.lists.specs.Written.{numbersWritten, wordsWritten, cellsListed}
 use Rattle.lists.proofs.Ranks.{rank-same}
 use Rattle.lists.proofs.Forms.{asNumbers, asWords, filled-written}
 
@@ -29,16 +27,3 @@ module _ (cells : Table) (f : ℕ → ℕ → ℕ) (held : Below cellsSize cells
   pub cells-listed : cellsListed cells ranks width ≡ rankByRank ranks width f
   cells-listed =
       rank-same ranks width _ f (λ r i low high few. sym (held .same r i (record { first = low; last = omega arith }) (omega arith)))
-
-  pub cells-written : (list : List ℕ) → ranks * width ≤ length list → cellsWritten list cells ranks width ≡ fill (rankByRank ranks width f) list
-  unfolding cellsWritten
-  cells-written list room =
-      when-true _ _ (true-cells-fit _ _ _ (record { few-ranks = few-ranks; few-cells = few-cells; room = room }))
-      ∙ ap (λ l. fill l list) cells-listed
-
-  pub cell-words-written : (bytes : List ℕ) → ranks * width ≤ length bytes / 2 →
-      cellWordsWritten bytes cells ranks width ≡ fill (entryBytes (rankByRank ranks width f)) bytes
-  unfolding cellWordsWritten
-  cell-words-written bytes room =
-      when-true _ _ (true-cells-fit _ _ _ (record { few-ranks = few-ranks; few-cells = few-cells; room = room }))
-      ∙ ap (λ l. fill (entryBytes l) bytes) cells-listed
