@@ -117,6 +117,12 @@ pub put₂-map : {A B : Type 0} (F : A → B) (f : ℕ → ℕ → A) (i j : ℕ
 unfolding put₂
 put₂-map F f i j v = fun-ext λ k. fun-ext λ l. decided (eqb k i && eqb l j) (λ t. rw t) (λ t. rw t)
 
+-- What holds of all its values.
+pub put₂-holds : {A : Type 0} (Holds : A → Type 0) (f : ℕ → ℕ → A) (i j : ℕ) {v : A} → Holds v → ((k l : ℕ) → Holds (f k l)) →
+    (k l : ℕ) → Holds (put₂ f i j v k l)
+unfolding put₂
+put₂-holds Holds f i j here others k l = decided (eqb k i && eqb l j) (λ t. rw t here) (λ t. rw t (others k l))
+
 -- The numbered members of a list.
 pub getElem?-bound : {A : Type 0} (l : List A) (i : ℕ) {a : A} → getElem? l i ≡ some a → i < length l
 getElem?-bound [] i h = absurd (Option·none-ne-some _ h)

@@ -6,5 +6,6 @@ pub mod Bytes
 pub mod Ranges
 pub mod Actions
 pub mod Replay
+pub mod Listings
 pub mod Samples
 pub mod StarredRuns

@@ -25,12 +25,12 @@ use Rattle.model.specs.Replay.{takeItem, takeItems, sameAddress, agreesWith, be
 use Rattle.model.specs.HappensBefore.{At, rankOf}
 use Rattle.model.specs.Traces.{Each, all, one}
 use Rattle.model.specs.Checks.{Accepted, accept}
-use Rattle.model.proofs.Laws.{Within, decided, and-true, bind-ok, required, ok-injective}
+use Rattle.model.proofs.Laws.{Within, decided, and-true, bind-ok, required, ok-injective, put₂-holds}
 use Rattle.model.proofs.Bytes.{Finds, finds-anything, finds-pure, finds-bind, finds-judged, finds-times, finds-weaker, whole-finds}
 use Rattle.model.proofs.Ranges.{Ranged, item-finds, header-fits}
 use Rattle.model.proofs.Actions.{Asks, loading, storing, assigning, passing, reading, writing, meeting, action-asks}
 use Rattle.model.proofs.Replay.{CommandTaken, ItemTaken, commands, fetches, delivers, item-taken, oldest-first, sameAddress-true}
-use Rattle.record_facts.proofs.Rows.{joining, group-joined, group-opened, count-joined, count-opened, each-snoc}
+use Rattle.record_facts.proofs.Rows.{joining, group-joined, group-opened, count-joined, count-opened, each-snoc, each-first}
 
 -- The entries of every queue, and an open row, are of groups that are numbered.
 record Bounded (s : Replay) : Type 0 where
@@ -48,19 +48,6 @@ record Stepped (s : Replay) (t : Taken) : Type 0 where
 each-weaker : {A : Type 0} {Holds Weaker : A → Type 0} → ((a : A) → Holds a → Weaker a) → {l : List A} → Each Holds l → Each Weaker l
 each-weaker weaker all = all
 each-weaker weaker (one {a = a} h rest) = one (weaker a h) (each-weaker weaker rest)
-
--- Of a function with one list changed.
-each-put : {A : Type 0} {Holds : A → Type 0} (f : ℕ → ℕ → List A) (i j : ℕ) (v : List A) → Each Holds v →
-    ((k l : ℕ) → Each Holds (f k l)) → (k l : ℕ) → Each Holds (put₂ f i j v k l)
-unfolding put₂
-each-put f i j v here others k l = decided (eqb k i && eqb l j) (λ t. rw t here) (λ t. rw t (others k l))
-
--- The first of some, and the others.
-each-first : {A : Type 0} {Holds : A → Type 0} {l : List A} {a : A} {rest : List A} → l ≡ a ∷ rest → Each Holds l → Holds a × Each Holds rest
-each-first {A} {Holds} e h = parts (subst (Each Holds) e h)
-  where
-    parts : {a : A} {rest : List A} → Each Holds (a ∷ rest) → Holds a × Each Holds rest
-    parts (one p q) = (p, q)
 
 -- The group of a command, and how many there are after it.
 record Numbered (s : Replay) (i : Item) : Type 0 where
@@ -96,7 +83,7 @@ module _ (P : Program) (s : Replay) (i : Item) (b : Bounded s) where
     requests-performed (assigns x v) = requests-later
     requests-performed passes = requests-later
     requests-performed (issues q source destination) =
-        each-put (s .machine .requests) (i .rank) q _ (each-snoc (requests-later (i .rank) q) own) requests-later
+        put₂-holds (Each _) (s .machine .requests) (i .rank) q (each-snoc (requests-later (i .rank) q) own) requests-later
     requests-performed meets = requests-later
 
     deliveries-performed : (a : Action) (rank queue : ℕ) →
@@ -130,9 +117,9 @@ module _ (P : Program) (s : Replay) (i : Item) (b : Bounded s) where
       record {
         bounded =
             record {
-              requests = each-put (s .machine .requests) (i .rank) (i .queue) rest others (b .requests);
+              requests = put₂-holds (Each _) (s .machine .requests) (i .rank) (i .queue) others (b .requests);
               deliveries =
-                  each-put (s .machine .deliveries) (i .rank) (i .queue) _ (each-snoc (b .deliveries (i .rank) (i .queue)) first) (b .deliveries);
+                  put₂-holds (Each _) (s .machine .deliveries) (i .rank) (i .queue) (each-snoc (b .deliveries (i .rank) (i .queue)) first) (b .deliveries);
               row = b .row;
             };
         group = first;
@@ -145,7 +132,7 @@ module _ (P : Program) (s : Replay) (i : Item) (b : Bounded s) where
         bounded =
             record {
               requests = b .requests;
-              deliveries = each-put (s .machine .deliveries) (i .rank) (i .queue) rest others (b .deliveries);
+              deliveries = put₂-holds (Each _) (s .machine .deliveries) (i .rank) (i .queue) others (b .deliveries);
               row = b .row;
             };
         group = first;

@@ -1,0 +1,5 @@
+pub mod Texts
+pub mod Digiting
+pub mod Spaced
+pub mod GroupLines
+pub mod Listed
