@@ -1,0 +1,16 @@
+pub mod Numbers
+pub mod RankMaps
+pub mod Rows
+pub mod Tallies
+pub mod Commands
+pub mod Writing
+pub mod Gathering
+pub mod Lending
+pub mod Putting
+pub mod Accepting
+pub mod Reading
+pub mod Turns
+pub mod Answering
+pub mod Standing
+pub mod RoundTrip
+pub mod SlipTheorems

@@ -1,0 +1,19 @@
+-- `maps::slip_length` meets its contract: a byte has at most eight ones.
+use Prim.Native.Nat.{_≤_}
+use native.Mathlib.Omega.{arith}
+use lib.Count.{ones-le}
+use borrow.Author.Needs.{needs}
+use Rattle.slips.proofs.maps.slip_length.Statement.{statement}
+use Rattle.slips.proofs.maps.slip_length.Tie as tie
+
+few : (c : tie.After-ranks-in) → c .ranks-in .result ≤ 8
+few c = rw (c .ranks-in .ensures) (ones-le 8 (c .before .args .map) (search needs))
+
+mul-result : tie.Need-mul-result
+mul-result c = let small = few c in omega arith
+
+add-result : tie.Need-add-result
+add-result c = let small = few c in omega arith
+
+pub slip-length-spec : {M : Type 1} → statement M
+slip-length-spec = tie.close (tie.spec (λ c κs. search needs) mul-result add-result (λ c. search needs))

@@ -1,0 +1,57 @@
+// Counts of command items, one for each rank.
+use crate::Counts;
+use crate::maps::lowest_row;
+use memory::row_of;
+use model::ITEMS;
+use model::RANKS;
+use model::Trail;
+ghost use mathlib.Core.Path.{_≡_};
+ghost use Prim.Native.Nat.{min};
+ghost use Rattle.model.specs.Limits.{maxItems};
+ghost use Rattle.model.specs.Checks.{fill};
+ghost use Rattle.slips.specs.Tallies.{ranksTold, tallied};
+ghost use Rattle.slips.specs.Reading.{noCounts};
+ghost use Rattle.slips.specs.Writing.{countsOf};
+
+// So many items, but no more than a trail has rows for.
+fn rows_told(items: usize) -> usize
+    ensures { λ r. ⌜ r ≡ min items maxItems ⌝ }
+{
+    if items < ITEMS {
+        return items;
+    }
+    ITEMS
+}
+
+// How many command items each rank has, by the first `items` rows of a trail.
+pub fn command_counts(trail: &Trail, items: usize) -> Counts
+    ensures { λ r. ⌜ r ≡ tallied (ranksTold items (now (trail .entry))) ⌝ }
+{
+    let mut counts = [0; RANKS];
+    let last = rows_told(items);
+    let mut item = 0;
+    while item < last {
+        let row = row_of(trail[item][0], RANKS);
+        if row < RANKS {
+            counts[row] += 1;
+        }
+        item += 1;
+    }
+    counts
+}
+
+// The counts of the map's ranks, ranks rising, in the first entries.
+pub fn counts_of(map: u8, counts: &Counts) -> Counts
+    ensures { λ r. ⌜ r ≡ fill (countsOf map (now (counts .entry))) noCounts ⌝ }
+{
+    let mut listed = [0; RANKS];
+    let mut done = 0;
+    let mut rest = map;
+    while rest != 0 {
+        let row = lowest_row(rest);
+        listed[done] = counts[row];
+        done += 1;
+        rest = rest & (rest - 1);
+    }
+    listed
+}

@@ -1,0 +1,50 @@
+// The rank map: bit r - 1 stands for rank r, whose entry in an array, its row, is r - 1 too.
+use crate::Counts;
+use model::RANKS;
+ghost use mathlib.Core.Path.{_≡_};
+ghost use lib.Count.{ones};
+ghost use Rattle.slips.specs.Maps.{lowestRow, slipLength};
+ghost use Rattle.slips.specs.Writing.{mapOf};
+
+// A count of bits, to index with.
+fn wide(count: u32) -> usize
+    ensures { λ r. ⌜ r ≡ count ⌝ }
+{
+    count as usize
+}
+
+// The row of the lowest bit: trailing zeros give the next rank.
+pub fn lowest_row(map: u8) -> usize
+    ensures { λ r. ⌜ r ≡ lowestRow map ⌝ }
+{
+    wide(u8::trailing_zeros(map))
+}
+
+// How many ranks have a count.
+pub fn ranks_in(map: u8) -> usize
+    ensures { λ r. ⌜ r ≡ ones map ⌝ }
+{
+    wide(u8::count_ones(map))
+}
+
+// "the slip has as many counts as the map has ones", of two bytes each behind the map.
+pub fn slip_length(map: u8) -> usize
+    ensures { λ r. ⌜ r ≡ slipLength map ⌝ }
+{
+    1 + 2 * ranks_in(map)
+}
+
+// "a byte map of ranks that have a command item"
+pub fn map_of(counts: &Counts) -> u8
+    ensures { λ r. ⌜ r ≡ mapOf (now (counts .entry)) ⌝ }
+{
+    let mut map = 0;
+    let mut row = 0;
+    while row < RANKS {
+        if counts[row] > 0 {
+            map = map | (1 << row);
+        }
+        row += 1;
+    }
+    map
+}
