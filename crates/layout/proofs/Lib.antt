@@ -1,0 +1,4 @@
+pub mod Laid
+pub mod Texts
+pub mod Lines
+pub mod Lengths

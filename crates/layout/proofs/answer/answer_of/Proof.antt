@@ -1,0 +1,12 @@
+-- `answer_of`: by the flag.
+use Rattle.layout.proofs.answer.answer_of.Statement.{statement}
+use Rattle.layout.proofs.answer.answer_of.Tie as tie
+
+returns : tie.Need-returns
+returns c = rw (c .if1 .taken)
+
+returns-2 : tie.Need-returns-2
+returns-2 c = rw (c .if1 .left)
+
+pub answer-of-spec : {M : Type 1} → statement M
+answer-of-spec = tie.close (tie.spec returns returns-2)

@@ -1,0 +1,4 @@
+pub mod Lines
+pub mod Accepted
+pub mod Printed
+pub mod Listed
