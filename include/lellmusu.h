@@ -1,7 +1,14 @@
 /*
  * Lellmusu checks a recorded run of a one-sided program: whether it equals a run that does one
- * transfer at a time. docs/FORMATS.md has the bytes of programs and records, docs/RECORDER.md how
- * to link and call the library.
+ * transfer at a time. docs/FORMATS.md has the bytes of programs, records and slips and the text of
+ * a listing, docs/RECORDER.md how to link and call the library.
+ *
+ * Of every function: what is lent is lent for the length of the call. Nothing is kept after it,
+ * nothing is allocated, and there is no global state, so threads may call at the same time, each
+ * with memory of its own to be written. The areas and *value must not overlap, and nobody may write
+ * to any of them, or read those that are written, during the call. A null pointer with length 0 is
+ * an empty area. `value` must not be null. On a refusal nothing but *value changes, except that
+ * lellmusu_list writes its `refused` line.
  */
 #ifndef LELLMUSU_H
 #define LELLMUSU_H
@@ -13,7 +20,7 @@
 extern "C" {
 #endif
 
-/* What lellmusu_check returns: an order, a ring, or the number of a refusal in document 01's table,
+/* What the functions return: an order, a ring, or the number of a refusal in document 01's table,
  * with the table's words. Before each colon stands what *value counts. Bytes and items are counted
  * from 0. */
 enum {
@@ -49,10 +56,9 @@ enum {
     LELLMUSU_QUEUES_LEFT = 13,
     /* Entries needed: order list shorter than the group count (also when a ring would fit). */
     LELLMUSU_ORDER_TOO_SHORT = 14,
-    /* Entries needed: cell list too short. (The table has slip, counts and listing memory here
-     * too; they are no part of lellmusu_check.) */
+    /* Entries or bytes needed: cell list, slip, counts or listing memory too short. */
     LELLMUSU_MEMORY_TOO_SHORT = 15,
-    /* Byte: slip not as document 01 says. lellmusu_check reads no slip and never returns this. */
+    /* Byte: slip not as document 01 says. Only lellmusu_read_slip returns this. */
     LELLMUSU_SLIP_FORM = 16,
     /* Groups: no run that does one transfer at a time has this run's trace. */
     LELLMUSU_RING = 255
@@ -62,6 +68,12 @@ enum {
  * and one for each of the 64 cells of 8 ranks. */
 #define LELLMUSU_ORDER_BYTES (2 * 1024)
 #define LELLMUSU_CELLS_BYTES (2 * 8 * 64)
+
+/* Likewise for a slip, its map and a count for each of 8 ranks; for the counts of a slip, in
+ * entries; and for the text of a listing. */
+#define LELLMUSU_SLIP_BYTES (1 + 2 * 8)
+#define LELLMUSU_COUNTS 8
+#define LELLMUSU_LISTING_BYTES 33803
 
 /*
  * Checks the record of a run of the program.
@@ -76,16 +88,54 @@ enum {
  * In `order` and `cells` an entry is two bytes, high byte first. A list has half as many entries
  * as bytes, rounded down: an odd last byte is never used. Bytes beyond the entries filled stay as
  * they were. On a refusal both lists stay as they were, and only *value changes.
- *
- * Everything is lent for the length of the call: nothing is kept after it, nothing is allocated,
- * and there is no global state. Threads may therefore call at the same time, each with lists and a
- * value of its own. The four areas and *value must not overlap, and nobody may write to any of
- * them, or read `order`, `cells` or *value, during the call. A length is that of its area in
- * bytes; a null pointer with length 0 is an empty area. `value` must not be null.
  */
 uint8_t lellmusu_check(const uint8_t *program, size_t program_length, const uint8_t *record,
                        size_t record_length, uint8_t *order, size_t order_length, uint8_t *cells,
                        size_t cells_length, size_t *value);
+
+/*
+ * Writes the slip of a run: a byte map of the ranks that have a command item, then for each of them
+ * a two-byte count of those items. Program and record are refused as lellmusu_check refuses them,
+ * by 1 to 13; then a memory that is too short, by 15 with the bytes needed.
+ *
+ *   slip     gets the slip's bytes, from its first byte on
+ *   value    gets the count of bytes written or, of a refusal, its place
+ *
+ * Returns 0 (LELLMUSU_ORDER) where the slip is written, whether the run is an order or a ring.
+ */
+uint8_t lellmusu_write_slip(const uint8_t *program, size_t program_length, const uint8_t *record,
+                            size_t record_length, uint8_t *slip, size_t slip_length,
+                            size_t *value);
+
+/*
+ * Reads a slip of a program with so many ranks. What is no slip of such a program is refused by 16;
+ * then counts that are too few, by 15 with the entries needed.
+ *
+ *   ranks    N, the program's ranks
+ *   slip     the slip's bytes; they may be any bytes, and are only read
+ *   counts   gets for each rank, rank 1 first, how many command items it has; 0 for a rank that
+ *            the slip does not name. `counts_length` is in entries, not in bytes.
+ *   value    gets the count of entries filled, N, or, of a refusal, its place
+ *
+ * Returns 0 (LELLMUSU_ORDER) where the counts are filled.
+ */
+uint8_t lellmusu_read_slip(uint8_t ranks, const uint8_t *slip, size_t slip_length,
+                           uint16_t *counts, size_t counts_length, size_t *value);
+
+/*
+ * Writes the listing of a run: a first line `order`, `ring` or `refused` with its numbers, then a
+ * line for each group listed and for each cell that is not 0. Lines end in a line feed; no byte 0
+ * is written behind the last.
+ *
+ *   text     gets the listing's bytes, from its first byte on
+ *   value    gets the count of bytes written or, where the text is too short, the bytes needed
+ *
+ * Returns what lellmusu_check would with long enough lists: 0 for an order, 255 for a ring, or the
+ * number of a refusal, whose place stands in the line that is written. Where the text does not fit
+ * nothing is written, and 15 is returned.
+ */
+uint8_t lellmusu_list(const uint8_t *program, size_t program_length, const uint8_t *record,
+                      size_t record_length, uint8_t *text, size_t text_length, size_t *value);
 
 #ifdef __cplusplus
 }

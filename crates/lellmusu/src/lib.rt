@@ -1,13 +1,24 @@
-// The whole check for a program in another language that links the static library.
+// Check, slip and listing for a program in another language that links the static library.
 use checker::check_bytes;
+use listing::listing;
 use model::Answer;
+use model::Filled;
+use model::refusals::MEMORY_TOO_SHORT;
+use slips::read_slip;
+use slips::write_slip;
 ghost use mathlib.Core.Path.{_≡_};
+ghost use Rattle.model.specs.Slips as definitions;
+ghost use Rattle.model.specs.Listings as listings;
 ghost use Rattle.lellmusu.specs.Reported.{numberOf, valueOf, Reported};
+ghost use Rattle.lellmusu.specs.Told.{filledNumber, filledValue, textLength, Tells, Prints};
 
 // What the entry returns for an order and for a ring: no row of document 01's table has these numbers.
 const ORDER: u8 = 0;
 
 const RING: u8 = 255;
+
+// What it returns where a slip is written or read.
+const FILLED: u8 = 0;
 
 // What an answer is, and the count of groups or the place, as numbers.
 fn number_of(answer: Answer) -> u8
@@ -45,5 +56,90 @@ pub extern "C" fn lellmusu_check(
 {
     let answer = check_bytes(program, recorded, order, cells);
     *value = value_of(answer);
+    number_of(answer)
+}
+
+// What was filled, as numbers: 0 and how many entries, or the refusal's number and its place.
+fn filled_number(filled: Filled) -> u8
+    ensures { λ r. ⌜ r ≡ filledNumber filled ⌝ }
+{
+    match filled {
+        Filled::Entries(_) => FILLED,
+        Filled::Refused(refusal) => refusal.number,
+    }
+}
+
+fn filled_value(filled: Filled) -> usize
+    ensures { λ r. ⌜ r ≡ filledValue filled ⌝ }
+{
+    match filled {
+        Filled::Entries(count) => count,
+        Filled::Refused(refusal) => refusal.place,
+    }
+}
+
+// Writes the slip of a run as `write_slip` does: it returns 0 and writes how many bytes the slip has, or the refusal's number and its place.
+#[no_mangle]
+pub extern "C" fn lellmusu_write_slip(
+    program: &[u8],
+    recorded: &[u8],
+    slip: &mut [u8],
+    value: &mut usize,
+) -> u8
+    ensures { λ r. ⌜ Tells (definitions.writeSlip (now (program .entry)) (now (recorded .entry)) (now (slip .entry)))
+        (now (slip .exit)) (now (value .exit)) r ⌝ }
+{
+    let filled = write_slip(program, recorded, slip);
+    *value = filled_value(filled);
+    filled_number(filled)
+}
+
+// Reads a slip of a program with so many ranks as `read_slip` does: it returns 0 and writes how many counts it filled, or the refusal's number and its
+// place.
+#[no_mangle]
+pub extern "C" fn lellmusu_read_slip(
+    ranks: u8,
+    slip: &[u8],
+    counts: &mut [u16],
+    value: &mut usize,
+) -> u8
+    ensures { λ r. ⌜ Tells (definitions.readSlip ranks (now (slip .entry)) (now (counts .entry))) (now (counts .exit)) (now (value .exit)) r ⌝ }
+{
+    let filled = read_slip(ranks as u16, slip, counts);
+    *value = filled_value(filled);
+    filled_number(filled)
+}
+
+// How many bytes a listing has: those that were written or, where the text was too short, those that are needed.
+fn text_length(answer: Answer, written: usize) -> usize
+    ensures { λ r. ⌜ r ≡ textLength answer written ⌝ }
+{
+    match answer {
+        Answer::Order(_) => written,
+        Answer::Ring(_) => written,
+        Answer::Refused(refusal) => {
+            if refusal.number == MEMORY_TOO_SHORT {
+                return refusal.place;
+            }
+            written
+        }
+    }
+}
+
+// Writes the listing of a run as `listing` does: it returns the check's number, or 15 where the text is too short, and writes how many bytes the text
+// has.
+#[no_mangle]
+pub extern "C" fn lellmusu_list(
+    program: &[u8],
+    recorded: &[u8],
+    text: &mut [u8],
+    value: &mut usize,
+) -> u8
+    ensures { λ r. ⌜ Prints (listings.listing (now (program .entry)) (now (recorded .entry)) (now (text .entry)))
+        (now (text .exit)) (now (value .exit)) r ⌝ }
+{
+    let listed = listing(program, recorded, text);
+    let answer = listed.answer;
+    *value = text_length(answer, listed.length);
     number_of(answer)
 }
