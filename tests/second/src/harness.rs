@@ -2,11 +2,9 @@
 
 use crate::bytes::fill_words;
 use crate::check::{check_bytes, Answer};
-use crate::corpus::{to_hex, CheckCase, Expected, SlipCase};
+use crate::corpus::{to_hex, CheckCase, Expected};
 use crate::generator::Input;
-use crate::limits::{number, Refusal};
-use crate::listing::{write_listing, Listed};
-use crate::slip::{read_slip, write_slip};
+use crate::limits::Refusal;
 use std::collections::BTreeMap;
 use std::fmt;
 
@@ -16,8 +14,29 @@ pub type Subject<'a> = &'a dyn Fn(&[u8], &[u8], &mut [u8], &mut [u8]) -> Answer;
 /// Lends fresh lists to some check, calls it on an input, and notes what it does.
 pub type Observer<'a> = &'a dyn Fn(&Input) -> Observed;
 
-/// So many bytes before and after each lent list belong to nobody and must stay.
+/// So many entries before and after each lent list belong to nobody and must stay; an entry is a
+/// byte, and in a list of counts a 16-bit number.
 pub const GUARD: usize = 16;
+/// Fresh entries are the same again after so many.
+const PERIOD: usize = 61;
+
+/// An entry of a lent list.
+pub trait Entry: Copy + Eq {
+    /// What stands at a place of a fresh list, the place taken below the period.
+    fn fresh(place: usize) -> Self;
+}
+
+impl Entry for u8 {
+    fn fresh(place: usize) -> u8 {
+        0xC0 | place as u8
+    }
+}
+
+impl Entry for u16 {
+    fn fresh(place: usize) -> u16 {
+        0xC080 + 0x0101 * place as u16
+    }
+}
 
 /// What a check answered, and both lists afterwards with the guards around them.
 #[derive(Clone, PartialEq, Eq)]
@@ -70,15 +89,17 @@ impl fmt::Display for Disagreement {
     }
 }
 
-/// A list of so many bytes in its guards, all filled with bytes that change from place to place.
-pub fn lent(bytes: usize) -> Vec<u8> {
-    (0..bytes + 2 * GUARD)
-        .map(|at| 0xC0 | (at % 61) as u8)
-        .collect()
+/// A list of so many entries in its guards, all filled with ones that change from place to place.
+pub fn lent<E: Entry>(entries: usize) -> Vec<E> {
+    let length = entries + 2 * GUARD;
+    let period: Vec<E> = (0..PERIOD).map(E::fresh).collect();
+    let mut list = period.repeat(length.div_ceil(PERIOD));
+    list.truncate(length);
+    list
 }
 
 /// The part of a guarded list that is lent.
-pub(crate) fn inner(list: &mut [u8]) -> &mut [u8] {
+pub(crate) fn inner<E>(list: &mut [E]) -> &mut [E] {
     let end = list.len() - GUARD;
     &mut list[GUARD..end]
 }
@@ -161,99 +182,6 @@ fn observed_of(case: &CheckCase, odd: usize) -> Observed {
         order,
         cells,
     }
-}
-
-/// Checks the second program's listing and slip on a corpus case, memory one byte short included.
-pub fn check_writers(case: &CheckCase) -> Result<(), String> {
-    check_listing(case)?;
-    check_slip_writer(case)
-}
-
-/// The refusal of a case whose program or record is refused.
-fn refusal_of(case: &CheckCase) -> Option<Refusal> {
-    match case.answer {
-        Expected::Refused(refusal) if case.slip.is_none() => Some(refusal),
-        _ => None,
-    }
-}
-
-/// Checks the listing in memory with bytes to spare and in memory one byte short.
-fn check_listing(case: &CheckCase) -> Result<(), String> {
-    let length = case.listing.len();
-    let mut right = lent(length);
-    right[..length].copy_from_slice(case.listing.as_bytes());
-    let mut memory = lent(length);
-    let listed = write_listing(&case.program, &case.record, &mut memory);
-    if listed
-        != (Listed {
-            written: length,
-            refusal: refusal_of(case),
-        })
-        || memory != right
-    {
-        return Err(format!("the listing differs: {listed:?}"));
-    }
-    let mut memory = lent(length);
-    let listed = write_listing(&case.program, &case.record, &mut memory[..length - 1]);
-    let short = Refusal {
-        number: number::MEMORY_SHORT,
-        place: length,
-    };
-    if listed
-        != (Listed {
-            written: 0,
-            refusal: Some(short),
-        })
-        || memory != lent(length)
-    {
-        return Err(format!("the listing in short memory differs: {listed:?}"));
-    }
-    Ok(())
-}
-
-/// Checks the slip writer in memory with bytes to spare and in memory one byte short.
-fn check_slip_writer(case: &CheckCase) -> Result<(), String> {
-    let slip = case.slip.clone().unwrap_or_default();
-    let mut right = lent(slip.len());
-    right[..slip.len()].copy_from_slice(&slip);
-    let mut memory = lent(slip.len());
-    let written = write_slip(&case.program, &case.record, &mut memory);
-    let expected = refusal_of(case).map_or(Ok(slip.len()), Err);
-    if written != expected || memory != right {
-        return Err(format!("the slip differs: {written:?}"));
-    }
-    if slip.is_empty() {
-        return Ok(());
-    }
-    let mut memory = lent(slip.len());
-    let written = write_slip(&case.program, &case.record, &mut memory[..slip.len() - 1]);
-    let short = Refusal {
-        number: number::MEMORY_SHORT,
-        place: slip.len(),
-    };
-    if written != Err(short) || memory != lent(slip.len()) {
-        return Err(format!("the slip in short memory differs: {written:?}"));
-    }
-    Ok(())
-}
-
-/// Checks the second program's slip reader on a corpus case, entries beyond the counts included.
-pub fn check_slip_reader(case: &SlipCase) -> Result<Answer, String> {
-    let fresh: Vec<u16> = (0..case.counts_entries)
-        .map(|at| 0xC0C0 + at as u16)
-        .collect();
-    let mut right = fresh.clone();
-    if let Ok(counts) = &case.answer {
-        right[..counts.len()].copy_from_slice(counts);
-    }
-    let mut counts = fresh;
-    let answer = read_slip(case.ranks, &case.slip, &mut counts);
-    if answer != case.answer.clone().map(drop) || counts != right {
-        return Err(format!(
-            "the slip reader differs: {answer:?}, counts {counts:?}"
-        ));
-    }
-    Ok(answer.map_or_else(Answer::Refused, |()| Answer::Order(case.ranks)))
 }
 
 /// How often each kind of answer came.

@@ -10,6 +10,7 @@ pub mod check;
 pub mod corpus;
 pub mod corpus_reader;
 pub mod expression;
+pub mod extras;
 pub mod families;
 pub mod generator;
 pub mod groups;

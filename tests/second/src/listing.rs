@@ -6,13 +6,24 @@ use crate::order::Verdict;
 use std::fs;
 use std::path::Path;
 
-/// What the listing says: the bytes written, and the refusal if there is one.
+/// What the listing says of the run.
+#[derive(Debug, Clone, Copy, PartialEq, Eq)]
+pub enum Said {
+    /// It lists an order.
+    Order,
+    /// It lists a ring.
+    Ring,
+    /// The run is refused, or the memory is too short; only 15 leaves the lent bytes untouched.
+    Refused(Refusal),
+}
+
+/// What the listing returns: what it says of the run, and the bytes written.
 #[derive(Debug, Clone, Copy, PartialEq, Eq)]
 pub struct Listed {
+    /// What it says.
+    pub said: Said,
     /// How many of the lent bytes were filled.
     pub written: usize,
-    /// The refusal; only 15 leaves the lent bytes untouched.
-    pub refusal: Option<Refusal>,
 }
 
 /// The lines of an accepted run.
@@ -37,34 +48,40 @@ pub fn lines_of(accepted: &Accepted) -> String {
     text
 }
 
-/// The whole text of the listing, and the refusal if the run is refused with 1 to 13.
-pub fn listing_text(program: &[u8], record: &[u8]) -> (String, Option<Refusal>) {
+/// The whole text of the listing, and what it says: an order, a ring, or a refusal with 1 to 13.
+pub fn listing_text(program: &[u8], record: &[u8]) -> (String, Said) {
     match accept(program, record) {
-        Ok(accepted) => (lines_of(&accepted), None),
+        Ok(accepted) => {
+            let said = match accepted.verdict {
+                Verdict::Order(_) => Said::Order,
+                Verdict::Ring(_) => Said::Ring,
+            };
+            (lines_of(&accepted), said)
+        }
         Err(refusal) => (
             format!("refused {} {}\n", refusal.number, refusal.place),
-            Some(refusal),
+            Said::Refused(refusal),
         ),
     }
 }
 
 /// Writes the listing into lent memory; memory too short for all lines is 15 and stays untouched.
 pub fn write_listing(program: &[u8], record: &[u8], memory: &mut [u8]) -> Listed {
-    let (text, refusal) = listing_text(program, record);
+    let (text, said) = listing_text(program, record);
     let Some(lent) = memory.get_mut(..text.len()) else {
         let short = Refusal {
             number: number::MEMORY_SHORT,
             place: text.len(),
         };
         return Listed {
+            said: Said::Refused(short),
             written: 0,
-            refusal: Some(short),
         };
     };
     lent.copy_from_slice(text.as_bytes());
     Listed {
+        said,
         written: text.len(),
-        refusal,
     }
 }
 

@@ -78,24 +78,50 @@ fn unreadable_and_malformed_files_end_with_status_2() {
     assert_bad_input(&["show", &runs, "run-z"], "no case named `run-z`");
 }
 
-#[test]
-fn a_disagreement_ends_with_status_1() {
-    let directory = fresh("disagreement");
-    let runs = fs::read_to_string(format!("{}/runs.txt", vectors())).expect("runs.txt is there");
-    let wrong = runs.replace("answer ring 3 4 5", "answer ring 3 5 4");
-    fs::write(directory.join("runs.txt"), wrong).expect("a file can be written");
+/// Fails unless the corpus file with this change ends with status 1 and prints these parts.
+fn assert_disagreement(file: &str, (from, to): (&str, &str), parts: &[&str]) {
+    let directory = fresh(&format!("disagreement-{}", parts[0].replace(' ', "-")));
+    let path = format!("{}/{file}", vectors());
+    let cases = fs::read_to_string(path).expect("the file is there");
+    assert!(cases.contains(from));
+    fs::write(directory.join(file), cases.replace(from, to)).expect("a file can be written");
     let output = harness(&["corpus", &directory.to_string_lossy()]);
     let text = String::from_utf8_lossy(&output.stdout);
     assert_eq!(output.status.code(), Some(1), "{text}");
-    for part in [
-        "case run-b",
-        "program 0202",
-        "record 000b",
-        "right:",
-        "subject:",
-    ] {
+    for part in parts {
         assert!(text.contains(part), "{part}: {text}");
     }
+}
+
+#[test]
+fn a_disagreement_ends_with_status_1() {
+    let input = ["program 0202", "record 000b", "right:", "subject:"];
+    assert_disagreement(
+        "runs.txt",
+        ("answer ring 3 4 5", "answer ring 3 5 4"),
+        &[&["case run-b"], &input[..]].concat(),
+    );
+    assert_disagreement(
+        "runs.txt",
+        ("listing group 4 bar 0 6", "listing group 4 bar 1 6"),
+        &[&["the listing differs"], &input[..]].concat(),
+    );
+    assert_disagreement(
+        "runs.txt",
+        ("slip 0300040003", "slip 0300030004"),
+        &[&["the slip writer differs"], &input[..]].concat(),
+    );
+    assert_disagreement(
+        "slips.txt",
+        ("answer counts 0 7 0", "answer counts 7 0 0"),
+        &[
+            "the slip reader differs",
+            "slip case slip-second-of-3",
+            "ranks 3",
+            "slip 020007",
+            "lent entries 3",
+        ],
+    );
 }
 
 #[test]

@@ -3,8 +3,9 @@
 use second::check::check_bytes;
 use second::corpus::{Case, Expected};
 use second::corpus_reader::{corpus_files, parse, read_file};
+use second::extras::{compare_extras, compare_slip_reader, Extras, Tally};
 use second::families;
-use second::harness::{between_guards, check_slip_reader, check_writers, compare_case};
+use second::harness::{between_guards, compare_case};
 use std::collections::BTreeSet;
 use std::fs;
 use std::path::PathBuf;
@@ -26,19 +27,20 @@ fn cases() -> Vec<Case> {
 
 #[test]
 fn the_second_program_agrees_with_every_case() {
+    let (second, mut tally) = (Extras::second(), Tally::default());
     for case in cases() {
-        match case {
+        let compared = match &case {
             Case::Check(case) => {
-                if let Err(disagreement) = compare_case(&between_guards(&check_bytes), &case) {
+                if let Err(disagreement) = compare_case(&between_guards(&check_bytes), case) {
                     panic!("{}: {disagreement}", case.name);
                 }
-                check_writers(&case).unwrap_or_else(|fault| panic!("{}: {fault}", case.name));
+                compare_extras(&second, case, &mut tally)
             }
-            Case::Slip(case) => {
-                check_slip_reader(&case).unwrap_or_else(|fault| panic!("{}: {fault}", case.name));
-            }
-        }
+            Case::Slip(case) => compare_slip_reader(&second, case, &mut tally),
+        };
+        compared.unwrap_or_else(|fault| panic!("{}: {fault}", case.name()));
     }
+    println!("{tally}");
 }
 
 #[test]

@@ -1,6 +1,8 @@
 //! The generator: repeatable, and rich enough that every number comes often and at many places.
 
 use second::check::{check_bytes, Answer};
+use second::corpus::{CheckCase, SlipCase};
+use second::extras::{compare_all_ranks, compare_extras, compare_slip_reader, Extras, Tally};
 use second::generator::input;
 use second::generator::slips::slip_input;
 use second::harness::{between_guards, compare, Histogram};
@@ -53,4 +55,32 @@ fn order_and_ring_counts_stay_within_the_list() {
             Answer::Refused(refusal) => assert!((1..=15).contains(&refusal.number)),
         }
     }
+}
+
+#[test]
+fn every_number_is_told_by_slip_writer_slip_reader_and_listing() {
+    let (second, mut tally) = (Extras::second(), Tally::default());
+    for index in 0..2_000 {
+        let (input, slip) = (input(7, index), slip_input(7, index));
+        let case = CheckCase::answered(String::new(), input.program, input.record, 0, 0);
+        let read = SlipCase::answered(String::new(), slip.ranks, slip.slip, slip.counts_entries);
+        compare_extras(&second, &case, &mut tally)
+            .and_then(|()| compare_slip_reader(&second, &read, &mut tally))
+            .and_then(|()| compare_all_ranks(&second, &read.slip, &mut tally))
+            .unwrap_or_else(|fault| panic!("seed 7, index {index}: {fault}"));
+    }
+    println!("{tally}");
+    let numbers = |function| tally.told[function].keys().copied().collect::<Vec<u8>>();
+    let refused = || 1..=13;
+    let writer: Vec<u8> = [0].into_iter().chain(refused()).chain([15]).collect();
+    let listing: Vec<u8> = writer.iter().copied().chain([255]).collect();
+    assert_eq!(numbers("slip writer"), writer);
+    assert_eq!(numbers("slip reader"), [0, 15, 16]);
+    assert_eq!(numbers("listing"), listing);
+    let often = |times: &usize| *times >= 30;
+    assert!(tally
+        .told
+        .values()
+        .flat_map(|numbers| numbers.values())
+        .all(often));
 }

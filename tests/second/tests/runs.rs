@@ -3,7 +3,8 @@
 use second::check::{answer, check, check_bytes, Answer};
 use second::corpus::{Case, CheckCase, Expected};
 use second::corpus_reader::parse;
-use second::harness::{between_guards, check_writers, compare_case};
+use second::extras::{compare_extras, Extras, Tally};
+use second::harness::{between_guards, compare_case};
 use second::limits::Refusal;
 use second::listing::write_listing;
 
@@ -77,7 +78,8 @@ fn runs_a_to_l_have_their_whole_answers() {
         if let Err(disagreement) = compare_case(&between_guards(&check_bytes), case) {
             panic!("{name}: {disagreement}");
         }
-        check_writers(case).unwrap_or_else(|fault| panic!("{name}: {fault}"));
+        compare_extras(&Extras::second(), case, &mut Tally::default())
+            .unwrap_or_else(|fault| panic!("{name}: {fault}"));
     }
 }
 

@@ -1,8 +1,12 @@
-//! What the tests of wrong subjects share.
+//! What the tests of wrong subjects share; no test uses all of it.
+
+#![allow(dead_code)]
 
 use second::check::Answer;
-use second::corpus::Case;
+use second::corpus::{Case, CheckCase, SlipCase};
 use second::corpus_reader::{corpus_files, read_file};
+use second::extras::{compare_all_ranks, compare_extras, compare_slip_reader, Extras, Tally, Told};
+use second::generator::slips::slip_input;
 use second::generator::{input, small_input};
 use second::harness::{between_guards, compare, compare_case, Subject};
 use second::judged::judge_observed;
@@ -33,18 +37,21 @@ pub fn first_misjudged(subject: Subject) -> Option<(u64, String)> {
     (0..RECORDS).find_map(misjudged)
 }
 
-/// How many cases of the corpus catch the subject.
-fn caught_by_corpus(subject: Subject) -> usize {
+/// All cases of the corpus.
+fn cases() -> Vec<Case> {
     let directory = Path::new(env!("CARGO_MANIFEST_DIR")).join("../vectors");
     let files = corpus_files(&directory).expect("the corpus is there");
-    let cases = files
-        .iter()
-        .flat_map(|file| read_file(file).expect("the corpus is well formed"));
+    let read = |file| read_file(file).expect("the corpus is well formed");
+    files.iter().flat_map(|file| read(file)).collect()
+}
+
+/// How many cases of the corpus catch the subject.
+fn caught_by_corpus(subject: Subject) -> usize {
     let catches = |case: &Case| match case {
         Case::Check(case) => compare_case(&between_guards(subject), case).is_err(),
         Case::Slip(_) => false,
     };
-    cases.filter(catches).count()
+    cases().into_iter().filter(catches).count()
 }
 
 /// Fails unless both the generated inputs and the corpus catch the subject.
@@ -62,6 +69,55 @@ pub fn assert_caught_and_misjudged(subject: Subject) -> String {
     let (index, fault) = first_misjudged(subject).expect("the judge must find the subject wrong");
     println!("misjudged on small record {index}: {fault}");
     fault
+}
+
+/// The first generated input, or slip of the same number, that catches the functions.
+fn first_caught_extras(subject: &Extras) -> Option<(u64, String)> {
+    let catches = |index| {
+        let (input, slip) = (input(SEED, index), slip_input(SEED, index));
+        let lists = (input.order_bytes / 2, input.cell_bytes / 2);
+        let case =
+            CheckCase::answered(String::new(), input.program, input.record, lists.0, lists.1);
+        let read = SlipCase::answered(String::new(), slip.ranks, slip.slip, slip.counts_entries);
+        let tally = &mut Tally::default();
+        let fault = compare_extras(subject, &case, tally)
+            .and_then(|()| compare_slip_reader(subject, &read, tally))
+            .and_then(|()| compare_all_ranks(subject, &read.slip, tally))
+            .err()?;
+        Some((index, fault))
+    };
+    (0..INPUTS).find_map(catches)
+}
+
+/// The name of the first case of the corpus that catches the functions.
+fn first_case_that_catches(subject: &Extras) -> Option<String> {
+    let catches = |case: &Case| match case {
+        Case::Check(case) => compare_extras(subject, case, &mut Tally::default()).is_err(),
+        Case::Slip(case) => compare_slip_reader(subject, case, &mut Tally::default()).is_err(),
+    };
+    let caught = cases().into_iter().find(catches);
+    caught.map(|case| case.name().to_string())
+}
+
+/// Fails unless both the generated inputs and the corpus catch the functions, the inputs by a
+/// difference of the one named.
+pub fn assert_extras_caught(function: &str, subject: &Extras) {
+    let (index, fault) = first_caught_extras(subject).expect("a generated input must catch it");
+    let begin = format!("the {function} differs\n");
+    assert!(fault.starts_with(&begin), "{fault}");
+    let case = first_case_that_catches(subject).expect("a case of the corpus must catch it");
+    println!("caught by input {index} and by the corpus's case {case}");
+}
+
+/// Fails if a generated input or the corpus catches the functions.
+pub fn assert_extras_right(subject: &Extras) {
+    assert_eq!(first_caught_extras(subject), None);
+    assert_eq!(first_case_that_catches(subject), None);
+}
+
+/// A number with its value.
+pub fn told(number: u8, value: usize) -> Told {
+    Told { number, value }
 }
 
 /// A refusal as an answer.

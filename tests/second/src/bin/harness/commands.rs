@@ -6,12 +6,13 @@ use second::bounded::judge_bounded;
 use second::check::{accept, check_bytes, Answer};
 use second::corpus::{Case, CheckCase, Expected, SlipCase};
 use second::corpus_reader::{corpus_files, read_file};
-use second::families;
-use second::generator::slips::slip_input;
-use second::generator::{input, small_input, Input};
-use second::harness::{
-    between_guards, check_slip_reader, check_writers, compare, compare_case, Histogram,
+use second::extras::{
+    askable, compare_all_ranks, compare_extras, compare_slip_reader, Extras, Tally,
 };
+use second::families;
+use second::generator::slips::{slip_input, SlipInput};
+use second::generator::{input, small_input, Input};
+use second::harness::{between_guards, compare, compare_case, Histogram};
 use second::judge::{judge, judge_order};
 use second::judged::{judge_observed, Verdicts};
 use second::listing::listing_of_directory;
@@ -28,13 +29,23 @@ const JUDGED_GROUPS: usize = 7;
 const SEARCHED_GROUPS: usize = 20;
 /// Places the bounded search may visit before it gives up.
 const SEARCH_LIMIT: usize = 100;
-/// One slip and one pair of writers is tried for so many generated inputs.
-const SLIP_EVERY: u64 = 6;
+/// For one of so many generated inputs slip writer, slip reader and listing are compared, too.
+const EXTRAS_EVERY: u64 = 3;
 
-/// Compares the subject with every case of the corpus, and the second program's other answers.
+/// What a command counts: the answers of the check, and what the other functions told.
+#[derive(Default)]
+struct Counts {
+    /// The answers.
+    histogram: Histogram,
+    /// What was told.
+    tally: Tally,
+}
+
+/// Compares the subject with every case of the corpus, and the second program as well.
 pub fn corpus(tested: &Tested, directory: &str) -> Done {
-    let mut histogram = Histogram::default();
+    let mut counts = Counts::default();
     let mut names = BTreeSet::new();
+    let mut not_asked = 0;
     for file in corpus_files(Path::new(directory)).map_err(Failure::Input)? {
         for case in read_file(&file).map_err(Failure::Input)? {
             if !names.insert(case.name().to_string()) {
@@ -42,51 +53,73 @@ pub fn corpus(tested: &Tested, directory: &str) -> Done {
                 return Err(Failure::Input(what));
             }
             match &case {
-                Case::Check(case) => corpus_check(tested, case, &mut histogram)?,
-                Case::Slip(case) => corpus_slip(case, &mut histogram)?,
+                Case::Check(case) => corpus_check(tested, case, &mut counts)?,
+                Case::Slip(case) => {
+                    corpus_slip(tested, case, &mut counts)?;
+                    not_asked += usize::from(!askable(case));
+                }
             }
         }
     }
+    let Counts { histogram, tally } = counts;
     Ok(format!(
-        "corpus: {} cases agree ({})\n{histogram}",
+        "corpus: {} cases agree ({})\nslip cases for the second program only, N above 255: \
+         {not_asked}\n{histogram}{tally}",
         names.len(),
         tested.name
     ))
 }
 
-/// One case of the whole check: subject and second program against the case's answer.
-fn corpus_check(
-    tested: &Tested,
-    case: &CheckCase,
-    histogram: &mut Histogram,
-) -> Result<(), Failure> {
+/// One case of the whole check: subject and second program against what the case holds.
+fn corpus_check(tested: &Tested, case: &CheckCase, counts: &mut Counts) -> Result<(), Failure> {
     let named = |fault: String| Failure::Disagreement(format!("case {}\n{fault}", case.name));
     let answer = compare_case(&tested.observe, case).map_err(|fault| named(fault.to_string()))?;
     compare_case(&between_guards(&check_bytes), case)
-        .map_err(|fault| named(format!("the second program differs\n{fault}")))?;
-    check_writers(case).map_err(named)?;
-    histogram.count(answer);
+        .map_err(|fault| named(of_second(&fault.to_string())))?;
+    both_extras(tested, case, counts).map_err(named)?;
+    counts.histogram.count(answer);
     Ok(())
 }
 
-/// One case of the slip reader.
-fn corpus_slip(case: &SlipCase, histogram: &mut Histogram) -> Result<(), Failure> {
-    check_slip_reader(case)
-        .map_err(|fault| Failure::Disagreement(format!("slip case {}\n{fault}", case.name)))?;
-    histogram.count_slip(case.answer.clone().map(drop));
+/// One case of the slip reader: subject and second program.
+fn corpus_slip(tested: &Tested, case: &SlipCase, counts: &mut Counts) -> Result<(), Failure> {
+    let named = |fault: String| Failure::Disagreement(format!("slip case {}\n{fault}", case.name));
+    both_readers(tested, case, counts).map_err(named)
+}
+
+/// What is printed of a fault of the second program.
+fn of_second(fault: &str) -> String {
+    format!("the second program differs\n{fault}")
+}
+
+/// Compares slip writer and listing of both programs with a case.
+fn both_extras(tested: &Tested, case: &CheckCase, counts: &mut Counts) -> Result<(), String> {
+    compare_extras(&tested.extras, case, &mut counts.tally)?;
+    compare_extras(&Extras::second(), case, &mut Tally::default())
+        .map_err(|fault| of_second(&fault))
+}
+
+/// Compares the slip readers of both programs with a case, and counts its answer.
+fn both_readers(tested: &Tested, case: &SlipCase, counts: &mut Counts) -> Result<(), String> {
+    if askable(case) {
+        compare_slip_reader(&tested.extras, case, &mut counts.tally)?;
+    }
+    compare_slip_reader(&Extras::second(), case, &mut Tally::default())
+        .map_err(|fault| of_second(&fault))?;
+    counts.histogram.count_slip(case.answer.clone().map(drop));
     Ok(())
 }
 
 /// Compares the subject with the second program on generated inputs, and judges their verdicts.
 pub fn generated(tested: &Tested, seed: u64, count: u64) -> Done {
-    let mut histogram = Histogram::default();
+    let mut counts = Counts::default();
     let (mut judged_orders, mut judged_rings) = (0, 0);
     for index in 0..count {
         let input = input(seed, index);
         let named =
             |fault: String| Failure::Disagreement(format!("seed {seed}, index {index}\n{fault}"));
         let answer = compare(&tested.observe, &input).map_err(|fault| named(fault.to_string()))?;
-        histogram.count(answer);
+        counts.histogram.count(answer);
         if !matches!(answer, Answer::Refused(_)) {
             match searched(&input).map_err(|fault| named(format!("{fault}\n{input}")))? {
                 Some(Verdict::Order(_)) => judged_orders += 1,
@@ -94,13 +127,15 @@ pub fn generated(tested: &Tested, seed: u64, count: u64) -> Done {
                 None => {}
             }
         }
-        if index % SLIP_EVERY == 0 {
-            generated_extras(seed, index, &input, &mut histogram).map_err(named)?;
+        if index % EXTRAS_EVERY == 0 {
+            generated_extras(tested, &input, &mut counts).map_err(named)?;
+            generated_slip(tested, &slip_input(seed, index), &mut counts).map_err(named)?;
         }
     }
+    let Counts { histogram, tally } = counts;
     let judged = format!("judged by search: {judged_orders} orders, {judged_rings} rings");
     Ok(format!(
-        "generated: {count} inputs agree, seed {seed} ({})\n{judged}\n{histogram}",
+        "generated: {count} inputs agree, seed {seed} ({})\n{judged}\n{histogram}{tally}",
         tested.name
     ))
 }
@@ -122,28 +157,20 @@ fn searched(input: &Input) -> Result<Option<Verdict>, String> {
     Ok(ended.then_some(accepted.verdict))
 }
 
-/// The second program's listing, slip writer and slip reader on generated inputs.
-fn generated_extras(
-    seed: u64,
-    index: u64,
-    input: &Input,
-    histogram: &mut Histogram,
-) -> Result<(), String> {
+/// Slip writer and listing on a generated input, and the slip reader on that slip.
+fn generated_extras(tested: &Tested, input: &Input, counts: &mut Counts) -> Result<(), String> {
     let (program, record) = (input.program.clone(), input.record.clone());
     let entries = (input.order_bytes / 2, input.cell_bytes / 2);
     let case = CheckCase::answered(String::new(), program, record, entries.0, entries.1);
-    check_writers(&case)?;
-    if let Some(slip) = case.slip {
-        let ranks = usize::from(input.program[0]);
-        let read = SlipCase::answered(String::new(), ranks, slip, ranks);
-        read.answer
-            .map_err(|refusal| format!("an own slip is refused: {refusal:?}"))?;
-    }
-    let slip = slip_input(seed, index);
-    let case = SlipCase::answered(String::new(), slip.ranks, slip.slip, slip.counts_entries);
-    check_slip_reader(&case)?;
-    histogram.count_slip(case.answer.map(drop));
-    Ok(())
+    both_extras(tested, &case, counts)
+}
+
+/// The slip reader on a generated slip, the subject's also for every other N.
+fn generated_slip(tested: &Tested, input: &SlipInput, counts: &mut Counts) -> Result<(), String> {
+    let (slip, entries) = (input.slip.clone(), input.counts_entries);
+    let case = SlipCase::answered(String::new(), input.ranks, slip, entries);
+    both_readers(tested, &case, counts)?;
+    compare_all_ranks(&tested.extras, &case.slip, &mut counts.tally)
 }
 
 /// Judges the subject's own answers on small records by the exhaustive search.

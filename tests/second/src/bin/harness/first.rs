@@ -1,12 +1,14 @@
-//! The one place where the first program's C entry is called, and the one place with `unsafe`.
+//! The one place where the first program's C functions are called, and the one place with `unsafe`.
 //!
-//! The entry is `lellmusu_check` of `include/lellmusu.h`. It is lent the areas of a call in one of
-//! two ways: as slices, which the harness puts between guard bytes (`check`), or at the ends of
-//! pages that are followed by memory without access (`Pages`), so that the hardware catches a byte
-//! read or written past an end. A caught access ends the harness with a report of the call. The
-//! system's constants and layouts are those of Linux on 64-bit machines.
+//! They are `lellmusu_check`, `lellmusu_write_slip`, `lellmusu_read_slip` and `lellmusu_list` of
+//! `include/lellmusu.h`. They are lent the areas of a call in one of two ways: as slices, which the
+//! harness puts between guards (`check` and the functions after it), or at the ends of pages that
+//! are followed by memory without access (`Pages`), so that the hardware catches a byte read or
+//! written past an end. A caught access ends the harness with a report of the call. The system's
+//! constants and layouts are those of Linux on 64-bit machines.
 
 use second::check::Answer;
+use second::extras::{Seen, Told, DONE, RING};
 use second::generator::Input;
 use second::harness::{lent, Observed, GUARD};
 use second::limits::Refusal;
@@ -35,6 +37,41 @@ extern "C" {
         cells_length: usize,
         value: *mut usize,
     ) -> u8;
+
+    /// The slip writer: 0, and `value` gets the bytes written; else the refusal's number, and
+    /// `value` gets its place.
+    fn lellmusu_write_slip(
+        program: *const u8,
+        program_length: usize,
+        record: *const u8,
+        record_length: usize,
+        slip: *mut u8,
+        slip_length: usize,
+        value: *mut usize,
+    ) -> u8;
+
+    /// The slip reader: 0, and `value` gets the counts filled; else the refusal's number, and
+    /// `value` gets its place. The length of the list of counts is in entries.
+    fn lellmusu_read_slip(
+        ranks: u8,
+        slip: *const u8,
+        slip_length: usize,
+        counts: *mut u16,
+        counts_length: usize,
+        value: *mut usize,
+    ) -> u8;
+
+    /// The listing: 0 for an order, 255 for a ring, else the refusal's number; `value` gets the
+    /// bytes written, and with 15 the bytes needed.
+    fn lellmusu_list(
+        program: *const u8,
+        program_length: usize,
+        record: *const u8,
+        record_length: usize,
+        text: *mut u8,
+        text_length: usize,
+        value: *mut usize,
+    ) -> u8;
 }
 
 extern "C" {
@@ -52,10 +89,6 @@ extern "C" {
     fn _exit(status: i32) -> !;
 }
 
-/// What the entry returns for an order.
-const ORDER: u8 = 0;
-/// What the entry returns for a ring.
-const RING: u8 = 255;
 /// What stands in `value` before a call: no count and no place of a record.
 const NO_VALUE: usize = usize::MAX;
 
@@ -79,7 +112,7 @@ const TOLD_ASIDE_ONCE: u32 = 0x4 | 0x0800_0000 | 0x8000_0000;
 #[repr(C)]
 struct Action {
     /// What is called.
-    handler: extern "C" fn(i32, *const Told, *mut c_void),
+    handler: extern "C" fn(i32, *const Signalled, *mut c_void),
     /// The signals held back meanwhile.
     held_back: [u64; 16],
     /// How it is called.
@@ -90,7 +123,7 @@ struct Action {
 
 /// The beginning of what a handler is told.
 #[repr(C)]
-struct Told {
+struct Signalled {
     /// The signal, an error number, and a code.
     head: [i32; 3],
     /// The address that was touched.
@@ -106,17 +139,87 @@ struct Area {
     length: usize,
 }
 
-/// The areas of one call.
+impl Area {
+    /// What stands for an area that a function does not have.
+    const NONE: Area = Area {
+        start: ptr::null_mut(),
+        length: 0,
+    };
+
+    /// A slice that is only read.
+    fn read(bytes: &[u8]) -> Area {
+        Area {
+            start: bytes.as_ptr().cast_mut(),
+            length: bytes.len(),
+        }
+    }
+
+    /// A slice that is filled.
+    fn filled<E>(entries: &mut [E]) -> Area {
+        Area {
+            start: entries.as_mut_ptr().cast(),
+            length: size_of_val(entries),
+        }
+    }
+}
+
+/// A function of the first program.
+#[derive(Clone, Copy)]
+enum Function {
+    /// The whole check.
+    Check,
+    /// The slip writer.
+    WriteSlip,
+    /// The slip reader for this N.
+    ReadSlip(u8),
+    /// The listing.
+    List,
+}
+
+impl Function {
+    /// The slip reader for an N; the harness asks it only of what a byte holds.
+    fn read_slip(ranks: usize) -> Function {
+        Function::ReadSlip(u8::try_from(ranks).expect("N is taken as one byte"))
+    }
+
+    /// Its name.
+    fn name(self) -> &'static str {
+        match self {
+            Function::Check => "lellmusu_check",
+            Function::WriteSlip => "lellmusu_write_slip",
+            Function::ReadSlip(_) => "lellmusu_read_slip",
+            Function::List => "lellmusu_list",
+        }
+    }
+
+    /// What it reads; an area that it does not have has no name.
+    fn read_names(self) -> [&'static str; 2] {
+        match self {
+            Function::Check | Function::WriteSlip | Function::List => ["program", "record"],
+            Function::ReadSlip(_) => ["slip", ""],
+        }
+    }
+
+    /// What it fills; likewise.
+    fn filled_names(self) -> [&'static str; 2] {
+        match self {
+            Function::Check => ["order list", "cell list"],
+            Function::WriteSlip => ["slip", ""],
+            Function::ReadSlip(_) => ["list of counts", ""],
+            Function::List => ["text", ""],
+        }
+    }
+}
+
+/// One call of a function.
 struct Call {
-    /// The program, only to be read.
-    program: Area,
-    /// The record, only to be read.
-    record: Area,
-    /// The order list.
-    order: Area,
-    /// The cell list.
-    cells: Area,
-    /// Where the count or place goes.
+    /// The function.
+    function: Function,
+    /// The areas that are only read.
+    read: [Area; 2],
+    /// The areas that are filled.
+    filled: [Area; 2],
+    /// Where the count, length or place goes.
     value: *mut usize,
 }
 
@@ -124,57 +227,116 @@ struct Call {
 static UNDER_WAY: AtomicPtr<Call> = AtomicPtr::new(ptr::null_mut());
 
 impl Call {
-    /// Calls the entry. A number that stands for no answer of the check becomes a refusal with that
-    /// number, which is right on no input.
+    /// Calls the function.
     ///
     /// Safety: the areas and `value` are memory that may be touched as the header says, until the
-    /// call ends; or touching it is caught.
-    unsafe fn answer(&self) -> Answer {
+    /// call ends, or touching it is caught; and a list of counts is aligned.
+    unsafe fn told(&self) -> Told {
         UNDER_WAY.store(ptr::from_ref(self).cast_mut(), SeqCst);
-        let number = lellmusu_check(
-            self.program.start,
-            self.program.length,
-            self.record.start,
-            self.record.length,
-            self.order.start,
-            self.order.length,
-            self.cells.start,
-            self.cells.length,
-            self.value,
-        );
+        let number = self.number();
         UNDER_WAY.store(ptr::null_mut(), SeqCst);
         let value = self.value.read();
-        match number {
-            ORDER => Answer::Order(value),
-            RING => Answer::Ring(value),
-            number => Answer::Refused(Refusal {
-                number,
-                place: value,
-            }),
-        }
+        Told { number, value }
     }
+
+    /// Calls the function and gives the number that it returns.
+    ///
+    /// Safety: as above.
+    unsafe fn number(&self) -> u8 {
+        let Call {
+            read: [one, two],
+            filled: [list, cells],
+            value,
+            ..
+        } = *self;
+        let writer = match self.function {
+            Function::Check => {
+                return lellmusu_check(
+                    one.start,
+                    one.length,
+                    two.start,
+                    two.length,
+                    list.start,
+                    list.length,
+                    cells.start,
+                    cells.length,
+                    value,
+                );
+            }
+            Function::ReadSlip(ranks) => {
+                let counts = list.start.cast::<u16>();
+                let entries = list.length / size_of::<u16>();
+                return lellmusu_read_slip(ranks, one.start, one.length, counts, entries, value);
+            }
+            Function::WriteSlip => lellmusu_write_slip,
+            Function::List => lellmusu_list,
+        };
+        writer(
+            one.start,
+            one.length,
+            two.start,
+            two.length,
+            list.start,
+            list.length,
+            value,
+        )
+    }
+}
+
+/// What the check told as an answer. A number that stands for no answer of the check becomes a
+/// refusal with that number, which is right on no input.
+fn answer(told: Told) -> Answer {
+    match told {
+        Told {
+            number: DONE,
+            value,
+        } => Answer::Order(value),
+        Told {
+            number: RING,
+            value,
+        } => Answer::Ring(value),
+        Told {
+            number,
+            value: place,
+        } => Answer::Refused(Refusal { number, place }),
+    }
+}
+
+/// Calls a function on slices.
+fn on_slices(function: Function, read: [&[u8]; 2], filled: [Area; 2]) -> Told {
+    let mut value = NO_VALUE;
+    let call = Call {
+        function,
+        read: read.map(Area::read),
+        filled,
+        value: &mut value,
+    };
+    // Each area is a slice of its own, lent for the call, and of the function's own entries.
+    unsafe { call.told() }
 }
 
 /// The first program's whole check on slices.
 pub fn check(program: &[u8], record: &[u8], order: &mut [u8], cells: &mut [u8]) -> Answer {
-    let read_only = |bytes: &[u8]| Area {
-        start: bytes.as_ptr().cast_mut(),
-        length: bytes.len(),
-    };
-    let list = |bytes: &mut [u8]| Area {
-        start: bytes.as_mut_ptr(),
-        length: bytes.len(),
-    };
-    let mut value = NO_VALUE;
-    let call = Call {
-        program: read_only(program),
-        record: read_only(record),
-        order: list(order),
-        cells: list(cells),
-        value: &mut value,
-    };
-    // Each area is a slice of its own, lent for the call.
-    unsafe { call.answer() }
+    let filled = [Area::filled(order), Area::filled(cells)];
+    answer(on_slices(Function::Check, [program, record], filled))
+}
+
+/// The first program's slip writer on slices.
+pub fn write_slip(program: &[u8], record: &[u8], slip: &mut [u8]) -> Told {
+    let filled = [Area::filled(slip), Area::NONE];
+    on_slices(Function::WriteSlip, [program, record], filled)
+}
+
+/// The first program's slip reader on slices.
+pub fn read_slip(ranks: usize, slip: &[u8], counts: &mut [u16]) -> Told {
+    let filled = [Area::filled(counts), Area::NONE];
+    on_slices(Function::read_slip(ranks), [slip, &[]], filled)
+}
+
+/// The first program's listing on slices.
+pub fn list(program: &[u8], record: &[u8], text: &mut [u8]) -> Told {
+    let filled = [Area::filled(text), Area::NONE];
+    on_slices(Function::List, [program, record], filled)
 }
 
 /// Memory between two stretches without access; what is lent lies at its end.
@@ -245,16 +407,40 @@ impl Drop for Region {
     }
 }
 
-/// The regions that lent areas lie in.
+/// A list that a function fills, without the guard after it, which is out of reach.
+struct Reached<'a> {
+    /// The guard before the list, and the list.
+    bytes: &'a mut [u8],
+    /// The bytes of the list alone.
+    length: usize,
+}
+
+impl Reached<'_> {
+    /// What stands for a list that a function does not have.
+    fn none() -> Reached<'static> {
+        Reached {
+            bytes: &mut [],
+            length: 0,
+        }
+    }
+
+    /// What is there of a list of bytes in its guards.
+    fn of(list: &mut [u8]) -> Reached<'_> {
+        let end = list.len() - GUARD;
+        Reached {
+            bytes: &mut list[..end],
+            length: end - GUARD,
+        }
+    }
+}
+
+/// The regions that lent areas lie in. Each function is lent some of its own, so that each area of
+/// each function is lent as null every other time that it is empty.
 pub struct Pages {
-    /// The program's.
-    program: Region,
-    /// The record's.
-    record: Region,
-    /// The order list's.
-    order: Region,
-    /// The cell list's.
-    cells: Region,
+    /// Those of the areas that are only read.
+    read: [Region; 2],
+    /// Those of the areas that are filled.
+    filled: [Region; 2],
     /// The one of `value`.
     value: Region,
 }
@@ -273,51 +459,95 @@ impl Pages {
             panic!("no handler can be set: {}", Error::last_os_error());
         }
         Pages {
-            program: Region::new(STEP),
-            record: Region::new(STEP),
-            order: Region::new(STEP),
-            cells: Region::new(STEP),
+            read: [Region::new(STEP), Region::new(STEP)],
+            filled: [Region::new(STEP), Region::new(STEP)],
             value: Region::new(STEP),
         }
     }
 
-    /// Lends all areas at the ends of pages, calls the first program, and notes what it does. The
-    /// guards after the lists are out of its reach; those before them lie before the lists.
-    pub fn observe(&mut self, input: &Input) -> Observed {
-        let mut order = lent(input.order_bytes);
-        let mut cells = lent(input.cell_bytes);
-        let reached = |list: &[u8]| list.len() - GUARD;
+    /// Lends all areas at the ends of pages, calls the function, and copies back what it filled,
+    /// with the guards before it.
+    fn call(&mut self, function: Function, read: [&[u8]; 2], filled: [Reached; 2]) -> Told {
+        let [one, two] = &mut self.read;
+        let [list, cells] = &mut self.filled;
         for (region, bytes) in [
-            (&mut self.program, &input.program[..]),
-            (&mut self.record, &input.record),
-            (&mut self.order, &order[..reached(&order)]),
-            (&mut self.cells, &cells[..reached(&cells)]),
+            (&mut *one, read[0]),
+            (&mut *two, read[1]),
+            (&mut *list, &*filled[0].bytes),
+            (&mut *cells, &*filled[1].bytes),
             (&mut self.value, &NO_VALUE.to_ne_bytes()),
         ] {
             region.end(bytes.len()).copy_from_slice(bytes);
         }
         let call = Call {
-            program: self.program.lend(input.program.len()),
-            record: self.record.lend(input.record.len()),
-            order: self.order.lend(input.order_bytes),
-            cells: self.cells.lend(input.cell_bytes),
+            function,
+            read: [one.lend(read[0].len()), two.lend(read[1].len())],
+            filled: [list.lend(filled[0].length), cells.lend(filled[1].length)],
             value: self.value.lend(size_of::<usize>()).start.cast(),
         };
-        self.program.protect(READ);
-        self.record.protect(READ);
-        // Each area lies at the end of a region of its own, and `value` is aligned as that end is.
-        let answer = unsafe { call.answer() };
-        self.program.protect(READ_AND_WRITE);
-        self.record.protect(READ_AND_WRITE);
-        for (region, list) in [(&mut self.order, &mut order), (&mut self.cells, &mut cells)] {
-            let reached = reached(list);
-            list[..reached].copy_from_slice(region.end(reached));
+        self.read.iter().for_each(|region| region.protect(READ));
+        // Each area lies at the end of a region of its own; `value` and a list of counts are
+        // aligned as that end is, since their lengths are whole entries.
+        let told = unsafe { call.told() };
+        self.read
+            .iter()
+            .for_each(|region| region.protect(READ_AND_WRITE));
+        for (region, Reached { bytes, .. }) in self.filled.iter_mut().zip(filled) {
+            bytes.copy_from_slice(region.end(bytes.len()));
         }
+        told
+    }
+
+    /// Has the first program check an input, and notes what it does.
+    pub fn check(&mut self, input: &Input) -> Observed {
+        let mut order = lent(input.order_bytes);
+        let mut cells = lent(input.cell_bytes);
+        let read = [&input.program[..], &input.record];
+        let filled = [Reached::of(&mut order), Reached::of(&mut cells)];
+        let answer = answer(self.call(Function::Check, read, filled));
         Observed {
             answer,
             order,
             cells,
         }
+    }
+
+    /// Has a function fill one list of so many bytes, and notes what it does.
+    fn fill(&mut self, function: Function, read: [&[u8]; 2], bytes: usize) -> Seen<u8> {
+        let mut memory = lent(bytes);
+        let filled = [Reached::of(&mut memory), Reached::none()];
+        let told = self.call(function, read, filled);
+        Seen { told, memory }
+    }
+
+    /// Has the first program write a slip, and notes what it does.
+    pub fn write_slip(&mut self, program: &[u8], record: &[u8], bytes: usize) -> Seen<u8> {
+        self.fill(Function::WriteSlip, [program, record], bytes)
+    }
+
+    /// Has the first program write a listing, and notes what it does.
+    pub fn list(&mut self, program: &[u8], record: &[u8], bytes: usize) -> Seen<u8> {
+        self.fill(Function::List, [program, record], bytes)
+    }
+
+    /// Has the first program read a slip, and notes what it does.
+    pub fn read_slip(&mut self, ranks: usize, slip: &[u8], entries: usize) -> Seen<u16> {
+        let mut memory = lent::<u16>(entries);
+        let reached = &mut memory[..GUARD + entries];
+        let mut bytes: Vec<u8> = reached
+            .iter()
+            .flat_map(|entry| entry.to_ne_bytes())
+            .collect();
+        let counts = Reached {
+            bytes: &mut bytes,
+            length: entries * size_of::<u16>(),
+        };
+        let filled = [counts, Reached::none()];
+        let told = self.call(Function::read_slip(ranks), [slip, &[]], filled);
+        for (entry, bytes) in reached.iter_mut().zip(bytes.chunks_exact(2)) {
+            *entry = u16::from_ne_bytes([bytes[0], bytes[1]]);
+        }
+        Seen { told, memory }
     }
 }
 
@@ -334,41 +564,44 @@ impl Write for Unbuffered {
 
 /// Reports a caught access of the call under way, and ends with status 1. Outside a call it
 /// returns, and since it was taken away when it began, the same access ends the process.
-extern "C" fn report(_signal: i32, told: *const Told, _context: *mut c_void) {
+extern "C" fn report(_signal: i32, signalled: *const Signalled, _context: *mut c_void) {
     let call = UNDER_WAY.load(SeqCst);
     if call.is_null() {
         return;
     }
-    // The call is under way, so it and what is lent to it are there; `told` comes from the system.
+    // The call is under way, so it and what is lent to it are there; `signalled` comes from the
+    // system.
     unsafe {
-        let _ = write_report(&*call, (*told).address);
+        let _ = write_report(&*call, (*signalled).address);
         _exit(1);
     }
 }
 
 /// Writes which access was caught, in or near which area, and the input.
 ///
-/// Safety: program and record may be read.
+/// Safety: the areas that are only read may be read.
 unsafe fn write_report(call: &Call, address: usize) -> fmt::Result {
     let out = &mut Unbuffered;
-    writeln!(out, "the subject touched what it may not, at {address:#x}")?;
+    let function = call.function.name();
+    writeln!(out, "{function} touched what it may not, at {address:#x}")?;
     let value = Area {
         start: call.value.cast(),
         length: size_of::<usize>(),
     };
-    for (name, Area { start, length }) in [
-        ("program", call.program),
-        ("record", call.record),
-        ("order list", call.order),
-        ("cell list", call.cells),
-        ("value", value),
-    ] {
+    let read = call.function.read_names().into_iter().zip(call.read);
+    let filled = call.function.filled_names().into_iter().zip(call.filled);
+    let (read, filled) = (named(read), named(filled));
+    let areas = read.clone().chain(filled.clone());
+    for (name, Area { start, length }) in areas.chain([("value", value)]) {
         let at = address.wrapping_sub(start.addr()) as isize;
         if at.unsigned_abs() < length + STEP {
             writeln!(out, "that is byte {at} of the {name}, which has {length}")?;
         }
     }
-    for (name, Area { start, length }) in [("program", call.program), ("record", call.record)] {
+    if let Function::ReadSlip(ranks) = call.function {
+        writeln!(out, "ranks {ranks}")?;
+    }
+    for (name, Area { start, length }) in read {
         let none = if length == 0 { "-" } else { "" };
         write!(out, "{name} {none}")?;
         for at in 0..length {
@@ -376,6 +609,15 @@ unsafe fn write_report(call: &Call, address: usize) -> fmt::Result {
         }
         writeln!(out)?;
     }
-    writeln!(out, "order bytes {}", call.order.length)?;
-    writeln!(out, "cell bytes {}", call.cells.length)
+    for (name, area) in filled {
+        writeln!(out, "{name}: {} bytes lent", area.length)?;
+    }
+    Ok(())
+}
+
+/// The areas that a function has.
+fn named(
+    areas: impl Iterator<Item = (&'static str, Area)> + Clone,
+) -> impl Iterator<Item = (&'static str, Area)> + Clone {
+    areas.filter(|(name, _)| !name.is_empty())
 }

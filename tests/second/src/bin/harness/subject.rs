@@ -5,6 +5,7 @@
 #[allow(unsafe_code)]
 mod first;
 
+use second::extras::Extras;
 use second::generator::Input;
 use second::harness::{between_guards, Observed, Subject};
 
@@ -12,18 +13,32 @@ use second::harness::{between_guards, Observed, Subject};
 pub struct Tested {
     /// What the harness's output calls it.
     pub name: &'static str,
-    /// Lends it lists, calls it on an input, and notes what it does.
+    /// Lends it lists, calls its check on an input, and notes what it does.
     pub observe: Box<dyn Fn(&Input) -> Observed>,
+    /// Its slip writer, slip reader and listing.
+    pub extras: Extras<'static>,
 }
 
 impl Tested {
     /// The subject as it is tested unless something else is asked for.
     #[cfg(feature = "first")]
     pub fn usual() -> Tested {
-        let pages = std::cell::RefCell::new(first::Pages::new());
+        let pages = || std::cell::RefCell::new(first::Pages::new());
+        let (check, write_slip, read_slip, list) = (pages(), pages(), pages(), pages());
         Tested {
             name: "the first program, lent the ends of pages",
-            observe: Box::new(move |input| pages.borrow_mut().observe(input)),
+            observe: Box::new(move |input| check.borrow_mut().check(input)),
+            extras: Extras {
+                write_slip: Box::new(move |program, record, bytes| {
+                    write_slip.borrow_mut().write_slip(program, record, bytes)
+                }),
+                read_slip: Box::new(move |ranks, slip, entries| {
+                    read_slip.borrow_mut().read_slip(ranks, slip, entries)
+                }),
+                list: Box::new(move |program, record, bytes| {
+                    list.borrow_mut().list(program, record, bytes)
+                }),
+            },
         }
     }
 
@@ -33,13 +48,18 @@ impl Tested {
         Tested::lent_slices(
             "the first program, lent lists in guard bytes",
             &first::check,
+            Extras::between_guards(&first::write_slip, &first::read_slip, &first::list),
         )
     }
 
     /// The subject as it is tested unless something else is asked for.
     #[cfg(not(feature = "first"))]
     pub fn usual() -> Tested {
-        Tested::lent_slices("the second program alone", &second::check::check_bytes)
+        Tested::lent_slices(
+            "the second program alone",
+            &second::check::check_bytes,
+            Extras::second(),
+        )
     }
 
     /// The subject with its lists between guard bytes: safe code is lent nothing else anyway.
@@ -49,10 +69,15 @@ impl Tested {
     }
 
     /// A subject that is lent slices between guard bytes.
-    fn lent_slices(name: &'static str, subject: Subject<'static>) -> Tested {
+    fn lent_slices(
+        name: &'static str,
+        subject: Subject<'static>,
+        extras: Extras<'static>,
+    ) -> Tested {
         Tested {
             name,
             observe: Box::new(between_guards(subject)),
+            extras,
         }
     }
 }

@@ -1,0 +1,264 @@
+//! The harness must catch a wrong slip writer, by generated inputs and by the corpus.
+
+mod common;
+
+use common::{assert_extras_caught, assert_extras_right, told};
+use second::check::{accept, Accepted};
+use second::extras::{listed, slip_read, slip_written, Extras, Told, Writer, DONE};
+use second::program::Kind;
+use second::slip::slip_of;
+
+/// Fails unless this slip writer is caught.
+fn assert_slip_writer_caught(subject: Writer) {
+    let subject = Extras::between_guards(subject, &slip_read, &listed);
+    assert_extras_caught("slip writer", &subject);
+}
+
+/// A slip writer that makes the slip of an accepted run in its own way.
+fn write(
+    slip_of: &dyn Fn(&Accepted) -> Vec<u8>,
+    program: &[u8],
+    record: &[u8],
+    memory: &mut [u8],
+) -> Told {
+    let slip = match accept(program, record) {
+        Ok(accepted) => slip_of(&accepted),
+        Err(refusal) => return refusal.into(),
+    };
+    let Some(lent) = memory.get_mut(..slip.len()) else {
+        return told(15, slip.len());
+    };
+    lent.copy_from_slice(&slip);
+    told(DONE, slip.len())
+}
+
+/// Fails unless a slip writer with this way to make slips is caught.
+fn assert_slips_caught(slip_of: &dyn Fn(&Accepted) -> Vec<u8>) {
+    assert_slip_writer_caught(&|program, record, slip| write(slip_of, program, record, slip));
+}
+
+/// A slip of these counts, with the bit that a rank's index is given.
+fn slip_with(counts: &[usize], bit_of: impl Fn(usize) -> usize) -> Vec<u8> {
+    let mut slip = vec![0];
+    for (index, &count) in counts.iter().enumerate() {
+        if count > 0 {
+            slip[0] |= 1 << bit_of(index);
+            slip.extend((count as u16).to_be_bytes());
+        }
+    }
+    slip
+}
+
+/// How many items of each rank pass.
+fn items_of(accepted: &Accepted, passes: impl Fn(&Kind) -> bool) -> Vec<usize> {
+    let of_rank = |rank| {
+        let of_rank = accepted.items.iter().filter(|item| item.act.rank() == rank);
+        of_rank.filter(|item| passes(&item.act.kind())).count()
+    };
+    (1..=accepted.program.ranks).map(of_rank).collect()
+}
+
+/// The right counts: command items, the pops left out.
+fn counts_of(accepted: &Accepted) -> Vec<usize> {
+    items_of(accepted, |kind| !matches!(kind, Kind::PopA | Kind::PopB))
+}
+
+#[test]
+fn the_parts_put_together_rightly_are_not_caught() {
+    assert_extras_right(&Extras::second());
+    let writer: Writer = &|program, record, memory| {
+        let slip = |accepted: &Accepted| slip_with(&counts_of(accepted), |index| index);
+        write(&slip, program, record, memory)
+    };
+    assert_extras_right(&Extras::between_guards(writer, &slip_read, &listed));
+}
+
+#[test]
+fn an_invented_count_written() {
+    assert_slips_caught(&|accepted| {
+        let mut slip = slip_of(accepted);
+        if let [_, .., low] = &mut slip[..] {
+            *low ^= 1;
+        }
+        slip
+    });
+    assert_slips_caught(&|accepted| {
+        let ones: Vec<usize> = counts_of(accepted)
+            .iter()
+            .map(|&count| count.min(1))
+            .collect();
+        slip_with(&ones, |index| index)
+    });
+}
+
+#[test]
+fn a_count_written_for_a_rank_without_a_command() {
+    // With its bit and a count of 0, then with the count alone.
+    assert_slips_caught(&|accepted| {
+        let counts = counts_of(accepted);
+        let mut slip = vec![((1_u16 << counts.len()) - 1) as u8];
+        slip.extend(
+            counts
+                .iter()
+                .flat_map(|&count| (count as u16).to_be_bytes()),
+        );
+        slip
+    });
+    assert_slips_caught(&|accepted| {
+        let counts = counts_of(accepted);
+        let mut slip = vec![slip_of(accepted)[0]];
+        slip.extend(
+            counts
+                .iter()
+                .flat_map(|&count| (count as u16).to_be_bytes()),
+        );
+        slip
+    });
+}
+
+#[test]
+fn map_bits_written_from_the_other_end() {
+    assert_slips_caught(&|accepted| slip_with(&counts_of(accepted), |index| 7 - index));
+    assert_slips_caught(&|accepted| {
+        let counts = counts_of(accepted);
+        slip_with(&counts, |index| counts.len() - 1 - index)
+    });
+}
+
+#[test]
+fn counts_written_ranks_falling() {
+    assert_slips_caught(&|accepted| {
+        let mut slip = slip_of(accepted);
+        slip[1..].reverse();
+        slip[1..].chunks_exact_mut(2).for_each(<[u8]>::reverse);
+        slip
+    });
+}
+
+#[test]
+fn counts_written_low_byte_first() {
+    assert_slips_caught(&|accepted| {
+        let mut slip = slip_of(accepted);
+        slip[1..].chunks_exact_mut(2).for_each(<[u8]>::reverse);
+        slip
+    });
+}
+
+#[test]
+fn the_low_byte_of_a_count_alone() {
+    assert_slips_caught(&|accepted| {
+        let low: Vec<usize> = counts_of(accepted)
+            .iter()
+            .map(|&count| count % 256)
+            .collect();
+        slip_with(&low, |index| index)
+    });
+}
+
+#[test]
+fn pops_counted() {
+    assert_slips_caught(&|accepted| slip_with(&items_of(accepted, |_| true), |index| index));
+}
+
+#[test]
+fn barriers_not_counted() {
+    assert_slips_caught(&|accepted| {
+        let counted = |kind: &Kind| !matches!(kind, Kind::PopA | Kind::PopB | Kind::Bar);
+        slip_with(&items_of(accepted, counted), |index| index)
+    });
+}
+
+#[test]
+fn a_barrier_counted_for_rank_1_only() {
+    assert_slips_caught(&|accepted| {
+        let bars = items_of(accepted, |&kind| kind == Kind::Bar);
+        let mut counts = counts_of(accepted);
+        for (count, bars) in counts.iter_mut().zip(bars).skip(1) {
+            *count -= bars;
+        }
+        slip_with(&counts, |index| index)
+    });
+}
+
+#[test]
+fn a_slip_memory_too_short_said_before_the_replay() {
+    assert_slip_writer_caught(&|program, record, slip| {
+        if slip.is_empty() {
+            return told(15, 1);
+        }
+        slip_written(program, record, slip)
+    });
+}
+
+#[test]
+fn slip_bytes_written_although_too_short() {
+    assert_slip_writer_caught(&|program, record, slip| {
+        let mut longer = [0; 17];
+        let short = slip_written(program, record, slip);
+        if short.number == 15 {
+            slip_written(program, record, &mut longer);
+            slip.copy_from_slice(&longer[..slip.len()]);
+        }
+        short
+    });
+}
+
+#[test]
+fn a_slip_memory_just_long_enough_refused() {
+    assert_slip_writer_caught(&|program, record, slip| {
+        let before = slip.to_vec();
+        let done = slip_written(program, record, slip);
+        if done == told(DONE, slip.len()) {
+            slip.copy_from_slice(&before);
+            return told(15, slip.len());
+        }
+        done
+    });
+}
+
+#[test]
+fn an_empty_slip_for_a_refused_run() {
+    assert_slip_writer_caught(&|program, record, slip| {
+        let refusal = slip_written(program, record, slip);
+        if (1..=13).contains(&refusal.number) {
+            slip.iter_mut().take(1).for_each(|byte| *byte = 0);
+        }
+        refusal
+    });
+}
+
+#[test]
+fn bytes_beyond_the_slip_cleared() {
+    assert_slip_writer_caught(&|program, record, slip| {
+        let done = slip_written(program, record, slip);
+        if done.number == DONE {
+            slip[done.value..].fill(0);
+        }
+        done
+    });
+}
+
+#[test]
+fn the_bytes_missing_from_a_slip_instead_of_those_needed() {
+    assert_slip_writer_caught(
+        &|program, record, slip| match slip_written(program, record, slip) {
+            Told { number: 15, value } => told(15, value - slip.len()),
+            right => right,
+        },
+    );
+}
+
+#[test]
+fn a_slips_length_cut_to_16_bits() {
+    assert_slip_writer_caught(&|program, record, slip| {
+        let length = slip.len() % 65_536;
+        slip_written(program, record, &mut slip[..length])
+    });
+}
+
+#[test]
+fn no_value_told_of_a_slip_written() {
+    assert_slip_writer_caught(&|program, record, slip| {
+        told(slip_written(program, record, slip).number, usize::MAX)
+    });
+}
