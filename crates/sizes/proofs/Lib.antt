@@ -1,0 +1,10 @@
+-- Where a replay refuses, how far readers look and place their faults, and so the start of a file that is enough; then the longest listing: where a
+-- refusal is placed, what values an accepted run holds, how long lines are, and the whole text.
+pub mod Places
+pub mod Allowances
+pub mod Starts
+pub mod Refusals
+pub mod Constants
+pub mod Values
+pub mod Lengths
+pub mod Listings

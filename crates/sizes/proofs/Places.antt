@@ -1,0 +1,127 @@
+-- Where a refusal is placed, by a rule for each way in which results are put together: what is refused by the whole is refused by a part. So the
+-- replay places its refusals at an item, or behind the last one.
+use Prim.Native.Nat.{ℕ, _+_, _≤_}
+use mathlib.Core.Path.{_≡_, refl, sym}
+use mathlib.Core.Bool.{Bool, true, false, _&&_}
+use mathlib.Core.List.{List, [], _∷_}
+use mathlib.Core.Option.{Option, some, none}
+use native.Mathlib.Omega.{arith}
+use lib.Dec.{ltb, eqb}
+use lib.ListN.{length, getElem?}
+use Rattle.model.specs.declared.Item.{Item}
+use Rattle.model.specs.declared.Refusal.{Refusal}
+use Rattle.model.specs.Refusals.{Result, ok, refused, refuse, require, _>>=_}
+use Rattle.model.specs.Refusals.{wrongTransition, operandRange, assumeFails, emptyQueue, accessDiffers, barrierRow, queuesLeft}
+use Rattle.model.specs.Choice.{between}
+use Rattle.model.specs.ItemKinds.{sameKind, Part, command, fetch, delivery, partOf}
+use Rattle.model.specs.Expressions.{Expression}
+use Rattle.model.specs.Programs.{Program, Transition, Command, load, store, assign, assume, read, write, bar, kindOf}
+use Rattle.model.specs.Machine.{Start, Request, Delivery, valueOf, operand, cellOperand, transfer, action}
+use Rattle.model.specs.Replay.{Origin, Replay, Taken, rowAllows, agreesWith, agreed, takeTransition, takeFetch, takeDelivery, takePart, takeItem}
+use Rattle.model.specs.Replay.{afterCommand, afterFetch, afterDelivery, oldest, takeItems, begin, quiet, atEnd, replay}
+use Rattle.model.proofs.Laws.{refused≢ok}
+
+-- What this result refuses is placed here or before.
+pub record Placed {A : Type 0} (most : ℕ) (m : Result A) : Type 0 where
+  pub place : (r : Refusal) → m ≡ refused r → r .place ≤ most
+
+pub placed-ok : {A : Type 0} {most : ℕ} (a : A) → Placed most (ok a)
+placed-ok a = record { place = λ r h. absurd (refused≢ok (sym h)) }
+
+pub placed-refuse : {A : Type 0} {most : ℕ} (number place : ℕ) → place ≤ most → Placed {A = A} most (refuse number place)
+placed-refuse number place before = record { place = λ r h. let same : place ≡ r .place = cc in rw same at before }
+
+pub placed-bind : {A B : Type 0} {most : ℕ} {m : Result A} {f : A → Result B} → Placed most m → ((a : A) → m ≡ ok a → Placed most (f a)) →
+    Placed most (m >>= f)
+placed-bind {m = ok a} first then = then a refl
+placed-bind {m = refused r} first then = record { place = λ s h. let same : r ≡ s = cc in rw same at (first .place r refl) }
+
+pub placed-later : {A : Type 0} {most later : ℕ} {m : Result A} → most ≤ later → Placed most m → Placed later m
+placed-later after placed = record { place = λ r h. omega (arith, placed .place r h) }
+
+placed-require : (t : Bool) (number place : ℕ) → Placed place (require t number place)
+placed-require true number place = placed-ok tt
+placed-require false number place = placed-refuse number place (omega arith)
+
+-- An item is refused at its number.
+module _ (P : Program) (at : ℕ) where
+  module _ (rank : ℕ) (registers : ℕ → ℕ) where
+    operand-placed : (test : ℕ → Bool) (e : Expression) → Placed at (operand P rank registers at test e)
+    unfolding operand
+    operand-placed test e = placed-bind (placed-require (test (valueOf P rank registers e)) operandRange at) λ _ _. placed-ok _
+
+    cell-placed : (e : Expression) → Placed at (cellOperand P rank registers at e)
+    unfolding cellOperand
+    cell-placed e = operand-placed (λ a. ltb a (P .header .cells)) e
+
+    transfer-placed : (e1 e2 e3 e4 : Expression) → Placed at (transfer P rank registers at e1 e2 e3 e4)
+    unfolding transfer
+    transfer-placed e1 e2 e3 e4 =
+        placed-bind (cell-placed e1) λ own _.
+        placed-bind (operand-placed (between 1 (P .header .ranks)) e2) λ remote _.
+        placed-bind (cell-placed e3) λ cell _.
+        placed-bind (operand-placed (λ q. ltb q (P .header .queues)) e4) λ queue _.
+        placed-ok _
+
+    action-placed : (c : Command) → Placed at (action P rank registers at c)
+    unfolding action
+    action-placed (load x e1) = placed-bind (cell-placed e1) λ cell _. placed-ok _
+    action-placed (store e1 e2) = placed-bind (cell-placed e1) λ cell _. placed-ok _
+    action-placed (assign x e1) = placed-ok _
+    action-placed (assume e1) = placed-bind (placed-require (ltb 0 (valueOf P rank registers e1)) assumeFails at) λ _ _. placed-ok _
+    action-placed (read e1 e2 e3 e4) = placed-bind (transfer-placed e1 e2 e3 e4) λ t _. placed-ok _
+    action-placed (write e1 e2 e3 e4) = placed-bind (transfer-placed e1 e2 e3 e4) λ t _. placed-ok _
+    action-placed bar = placed-ok _
+
+  agreed-placed : (taken : Taken) → Placed at (agreed at taken)
+  unfolding agreed
+  agreed-placed taken =
+      placed-bind (placed-require (agreesWith (taken .event .item) (taken .event .access)) accessDiffers at) λ _ _. placed-ok taken
+
+  module _ (s : Replay) (i : Item) where
+    transition-placed : (t : Option Transition) → Placed at (takeTransition P s at i t)
+    unfolding takeTransition
+    transition-placed none = placed-refuse wrongTransition at (omega arith)
+    transition-placed (some t) =
+        let fits : Bool = eqb (t .source) (s .machine .control (i .rank)) && sameKind (kindOf (t .command)) (i .kind) in
+        placed-bind (placed-require fits wrongTransition at) λ _ _.
+        placed-bind (action-placed (i .rank) (s .machine .registers (i .rank)) (t .command)) λ a _.
+        agreed-placed (afterCommand P s i (t .target) a)
+
+    fetch-placed : (o : Option (Request Origin × List (Request Origin))) → Placed at (takeFetch s at i o)
+    unfolding takeFetch
+    fetch-placed none = placed-refuse emptyQueue at (omega arith)
+    fetch-placed (some (a, rest)) = agreed-placed (afterFetch s i a rest)
+
+    delivery-placed : (o : Option (Delivery Origin × List (Delivery Origin))) → Placed at (takeDelivery s at i o)
+    unfolding takeDelivery
+    delivery-placed none = placed-refuse emptyQueue at (omega arith)
+    delivery-placed (some (b, rest)) = agreed-placed (afterDelivery s i b rest)
+
+    part-placed : (p : Part) → Placed at (takePart P s at i p)
+    unfolding takePart
+    part-placed command = transition-placed (getElem? (P .transitions) (i .transition))
+    part-placed fetch = fetch-placed (oldest (s .machine .requests (i .rank) (i .queue)))
+    part-placed delivery = delivery-placed (oldest (s .machine .deliveries (i .rank) (i .queue)))
+
+    item-placed : Placed at (takeItem P s at i)
+    unfolding takeItem
+    item-placed = placed-bind (placed-require (rowAllows (s .row) i) barrierRow at) λ _ _. part-placed (partOf (i .kind))
+
+-- The items, and what is left at their end.
+module _ (P : Program) where
+  items-placed : (s : Replay) (at : ℕ) (items : List Item) → Placed (at + length items) (takeItems P s at items)
+  unfolding takeItems
+  items-placed s at [] = placed-ok _
+  items-placed s at (i ∷ items) =
+      placed-bind (placed-later (omega arith) (item-placed P at s i)) λ taken _.
+      placed-bind (placed-later (omega arith) (items-placed (taken .state) (at + 1) items)) λ rest _.
+      placed-ok _
+
+  pub replay-placed : (start : Start) (items : List Item) → Placed (length items) (replay P start items)
+  unfolding replay atEnd
+  replay-placed start items =
+      placed-bind (placed-later (omega arith) (items-placed (begin start) 0 items)) λ r _.
+      placed-bind (placed-require (eqb (r .last .row) 0) barrierRow (length items)) λ _ _.
+      placed-bind (placed-require (quiet P (r .last .machine)) queuesLeft (length items)) λ _ _.
+      placed-ok r

@@ -1,0 +1,15 @@
+-- The longest inputs that can be read, in bytes, and the longest listing.
+use Prim.Native.Nat.{ℕ}
+
+-- Six header numbers, then 128 transitions of four bytes and four expressions. Eight of an expression's fifteen tokens are constants, so it has 31
+-- bytes.
+abbrev pub maxProgramBytes : ℕ
+maxProgramBytes = 16_390
+
+-- An item count, then 1,024 items of nine bytes: all fields but a queue, or all but a transition.
+abbrev pub maxRecordBytes : ℕ
+maxRecordBytes = 9_218
+
+-- `order 1024`, then 1,024 lines as `group 1023 assign 8 1023`, then 512 as `cell 8 63 65535`, each with its line feed.
+abbrev pub maxListingBytes : ℕ
+maxListingBytes = 33_803

@@ -1,0 +1,1 @@
+// Theorems alone: the longest inputs that can be read, and the longest listing. See specs/Sizes.antt.
