@@ -1,5 +1,5 @@
-# `make test` is every test and every proof; `make sample` lists the sample run; `make bench` times the whole check; `make library`, `make install`
-# and `make recorder` are for whoever calls the check from C.
+# `make test` is every test and every proof; `make sample` lists the sample run; `make list_run` builds the listing program; `make bench` times the
+# whole check; `make library`, `make install` and `make recorder` are for whoever calls the check from C.
 
 SHELL := bash
 
@@ -11,8 +11,13 @@ DEFINITIONS := target/definitions
 LIBRARY := target/staticlib/liblellmusu.a
 HEADER := include/lellmusu.h
 RECORDER := target/recorder
+LISTING_LIBRARY := target/staticlib/liblist_run.a
+LIST_RUN := target/programs/list_run
 
-# Where `install` puts library, header and pkg-config file, and the version that the last tells.
+# The kit's C code for opening files.
+OS_CODE = $(dir $(shell rt doc))../lib/libos_c.a
+
+# Where `install` puts its files, and the version that the pkg-config file tells.
 PREFIX ?= /usr/local
 VERSION := 0.1.0
 
@@ -27,9 +32,10 @@ SEED ?= 1
 COUNT ?= 20000
 
 # What `test` runs after rt's own gate, in turn.
-PARTS := second harness definitions edits first recorder-test
+PARTS := second harness definitions edits first recorder-test list_run-test
 
 .PHONY: test sample bench second harness definitions edits first programs library install recorder recorder-test recorder-thread header
+.PHONY: list_run list_run-test
 
 # Every proof and must-fail edit from nothing, then the tests, which stand on what was proved. Each part's seconds are printed, and the gate's
 # last line is the last line.
@@ -65,9 +71,9 @@ definitions: programs
 edits:
 	tests/edits/run
 
-# The whole check as a static library, proved again only if a crate has changed.
-$(LIBRARY): crates.txt $(shell find crates -type f -not -path '*/must-fail/*')
-	rt staticlib lellmusu
+# The whole check, and the listing program, as static libraries, proved again only if a crate has changed.
+$(LIBRARY) $(LISTING_LIBRARY): target/staticlib/lib%.a: crates.txt $(shell find crates -type f -not -path '*/must-fail/*')
+	rt staticlib $*
 
 # The harness with the library's check in place of the second program's: the corpus, generated inputs, and small records judged by searching all
 # plain runs.
@@ -82,19 +88,31 @@ bench: $(LIBRARY)
 	cd tests/bench && cargo build --release --quiet
 	$(PROGRAMS)/bench
 
-# The listing of the sample run.
-sample: programs
-	$(HARNESS) listing samples/neighbour
+# The listing of the sample run. It is a ring, whose status is 1.
+sample: list_run
+	@cd samples/neighbour && $(abspath $(LIST_RUN)) || [ $$? = 1 ]
+
+# The listing program: proved code, and C for the exit status.
+list_run: $(LIST_RUN)
+$(LIST_RUN): programs/list_run.c $(LISTING_LIBRARY)
+	@mkdir -p $(dir $@)
+	$(CC) $(C_FLAGS) -O2 -o $@ $^ $(OS_CODE)
+
+# The listing program on the corpus, and on files that are missing or too long.
+list_run-test: $(LIST_RUN)
+	tests/list_run/run $(LIST_RUN)
 
 # The library that C programs link.
 library: $(LIBRARY)
 
-# Library, header and pkg-config file below PREFIX, which DESTDIR goes before while they are put there.
+# Library, header and pkg-config file, and the listing program with its page, below PREFIX, which DESTDIR goes before while they are put there.
 install: UNDER = $(DESTDIR)$(abspath $(PREFIX))
-install: library
-	install -d $(UNDER)/lib/pkgconfig $(UNDER)/include
+install: library list_run
+	install -d $(UNDER)/lib/pkgconfig $(UNDER)/include $(UNDER)/bin $(UNDER)/share/man/man1
 	install -m 644 $(LIBRARY) $(UNDER)/lib
 	install -m 644 $(HEADER) $(UNDER)/include
+	install $(LIST_RUN) $(UNDER)/bin
+	install -m 644 docs/list_run.1 $(UNDER)/share/man/man1
 	sed -e 's|@PREFIX@|$(abspath $(PREFIX))|' -e 's|@VERSION@|$(VERSION)|' lellmusu.pc.in >$(UNDER)/lib/pkgconfig/lellmusu.pc
 
 # The example recorder, as it is used, and with sanitizers for its test.

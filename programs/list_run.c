@@ -1,0 +1,16 @@
+/* The listing program. All that it does is proved code; C gives it the exit status that a Rattle
+ * program cannot have. */
+#include <signal.h>
+#include <stdint.h>
+
+/* Reads run.prg and run.rec in the folder where the program is started, prints the listing and
+ * returns the exit status: 0 for an order, 1 for a ring, 2 for a refusal, 3 where the output could
+ * not be written. */
+uint8_t lellmusu_list_run(void);
+
+int main(void)
+{
+    /* A pipe that nobody reads is output that cannot be written, and not the end of the program. */
+    signal(SIGPIPE, SIG_IGN);
+    return lellmusu_list_run();
+}
