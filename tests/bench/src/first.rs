@@ -1,15 +1,23 @@
 //! The one place where the proved library is called, and the one place with `unsafe`.
 
-use second::check::Answer;
-use second::limits::Refusal;
+/// What check and listing return for an order.
+pub const ORDER: u8 = 0;
+/// What they return for a ring.
+pub const RING: u8 = 255;
 
-/// What the entry returns for an order.
-const ORDER: u8 = 0;
-/// What it returns for a ring.
-const RING: u8 = 255;
+/// A function that fills one area.
+type Fills = unsafe extern "C" fn(
+    program: *const u8,
+    program_length: usize,
+    record: *const u8,
+    record_length: usize,
+    memory: *mut u8,
+    memory_length: usize,
+    value: *mut usize,
+) -> u8;
 
 extern "C" {
-    /// The function of `include/lellmusu.h`.
+    /// The functions of `include/lellmusu.h`.
     fn lellmusu_check(
         program: *const u8,
         program_length: usize,
@@ -21,10 +29,30 @@ extern "C" {
         cells_length: usize,
         value: *mut usize,
     ) -> u8;
+
+    fn lellmusu_list(
+        program: *const u8,
+        program_length: usize,
+        record: *const u8,
+        record_length: usize,
+        text: *mut u8,
+        text_length: usize,
+        value: *mut usize,
+    ) -> u8;
+
+    fn lellmusu_write_slip(
+        program: *const u8,
+        program_length: usize,
+        record: *const u8,
+        record_length: usize,
+        slip: *mut u8,
+        slip_length: usize,
+        value: *mut usize,
+    ) -> u8;
 }
 
-/// The whole check on lent bytes.
-pub fn check_bytes(program: &[u8], record: &[u8], order: &mut [u8], cells: &mut [u8]) -> Answer {
+/// The whole check on lent bytes: the number and the value that it tells.
+pub fn check(program: &[u8], record: &[u8], order: &mut [u8], cells: &mut [u8]) -> (u8, usize) {
     let mut value = 0;
     // Each pointer comes from a reference of its own, and each length is that of its slice.
     let number = unsafe {
@@ -40,12 +68,33 @@ pub fn check_bytes(program: &[u8], record: &[u8], order: &mut [u8], cells: &mut 
             &mut value,
         )
     };
-    match number {
-        ORDER => Answer::Order(value),
-        RING => Answer::Ring(value),
-        number => Answer::Refused(Refusal {
-            number,
-            place: value,
-        }),
-    }
+    (number, value)
+}
+
+/// A function that fills one area, on lent bytes.
+fn fill(function: Fills, program: &[u8], record: &[u8], memory: &mut [u8]) -> (u8, usize) {
+    let mut value = 0;
+    // As above.
+    let number = unsafe {
+        function(
+            program.as_ptr(),
+            program.len(),
+            record.as_ptr(),
+            record.len(),
+            memory.as_mut_ptr(),
+            memory.len(),
+            &mut value,
+        )
+    };
+    (number, value)
+}
+
+/// The listing.
+pub fn list(program: &[u8], record: &[u8], text: &mut [u8]) -> (u8, usize) {
+    fill(lellmusu_list, program, record, text)
+}
+
+/// The slip's writer.
+pub fn write_slip(program: &[u8], record: &[u8], slip: &mut [u8]) -> (u8, usize) {
+    fill(lellmusu_write_slip, program, record, slip)
 }

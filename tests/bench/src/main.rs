@@ -1,13 +1,14 @@
-//! The time of the whole check, proved and compiled, beside the second program's, on the same bytes.
+//! The times of check, listing and slip writer, proved and compiled, beside the second program's, on the same bytes.
 //!
-//! Prints two lines for each shape of records, the time of a call on run b, which is one small record, and whether the first program's time grows in
-//! step with the items. Ends with 1 if it does not, or if the two programs disagree on a record.
+//! Prints two lines for each function and shape of records, the time of a call on run b, which is one small record, and whether the first program's
+//! time grows in step with the items. Ends with 1 if it does not, or if the two programs disagree on a record.
 
 mod first;
 mod mixed;
 mod shapes;
 
 use second::check::{check_bytes, Answer};
+use second::extras::{listed, slip_written};
 use second::machine::{Machine, Start};
 use second::program::Program;
 use second::record::{record_bytes, Act, Item};
@@ -33,13 +34,15 @@ const RUN_B_CALLS: usize = 20_000;
 /// Bytes that are enough for every answer.
 const ORDER_BYTES: usize = 2 * 1024;
 const CELL_BYTES: usize = 2 * 8 * 64;
+const TEXT_BYTES: usize = 33_803;
 
 /// What is measured.
 const MEASURED: &str = "\
-A call of the whole check, in microseconds, from program and record bytes to the answer and both lists in bytes.
-first:  lellmusu_check of the static library, proved.
-second: tests/second: check_bytes. Its work for each group grows with the groups. Built for release, without the overflow
-        checks that its own tests have.
+A call, in microseconds, from program and record bytes to all that it fills, which is enough for every answer.
+check, listing, slip: the whole check, the listing, the slip's writer.
+first:  lellmusu_check, lellmusu_list and lellmusu_write_slip of the static library, proved.
+second: tests/second. Its work for each group grows with the groups. Built for release, without the overflow checks that
+        its own tests have.
 mixed:  one item in three is a transfer's command, of all ranks and queues, done at once or waiting in many ways.
 falling, rising, ring: two ranks; arrows that fall, none that fall, and a ring of all groups.";
 
@@ -84,6 +87,54 @@ struct Input {
     record: Vec<u8>,
     order: Vec<u8>,
     cells: Vec<u8>,
+    text: Vec<u8>,
+}
+
+/// A function that is measured: its name, and how each program is called. A call gives the number and the value that it tells.
+struct Work {
+    name: &'static str,
+    first: fn(&mut Input) -> (u8, usize),
+    second: fn(&mut Input) -> (u8, usize),
+}
+
+const WORKS: [Work; 3] = [
+    Work {
+        name: "check",
+        first: |i| first::check(&i.program, &i.record, &mut i.order, &mut i.cells),
+        second: |i| {
+            told(check_bytes(
+                &i.program,
+                &i.record,
+                &mut i.order,
+                &mut i.cells,
+            ))
+        },
+    },
+    Work {
+        name: "listing",
+        first: |i| first::list(&i.program, &i.record, &mut i.text),
+        second: |i| {
+            let told = listed(&i.program, &i.record, &mut i.text);
+            (told.number, told.value)
+        },
+    },
+    Work {
+        name: "slip",
+        first: |i| first::write_slip(&i.program, &i.record, &mut i.text),
+        second: |i| {
+            let told = slip_written(&i.program, &i.record, &mut i.text);
+            (told.number, told.value)
+        },
+    },
+];
+
+/// The second program's answer, as the library tells it.
+fn told(answer: Answer) -> (u8, usize) {
+    match answer {
+        Answer::Order(count) => (first::ORDER, count),
+        Answer::Ring(count) => (first::RING, count),
+        Answer::Refused(refusal) => (refusal.number, refusal.place),
+    }
 }
 
 /// The bytes of a record that does so, each item with its place and value as the replay has them.
@@ -111,6 +162,7 @@ impl Input {
             record,
             order: vec![0; ORDER_BYTES],
             cells: vec![0; CELL_BYTES],
+            text: vec![0; TEXT_BYTES],
         }
     }
 
@@ -121,46 +173,36 @@ impl Input {
         Input::new(program.to_bytes(), record)
     }
 
-    /// The proved check.
-    fn first(&mut self) -> Answer {
-        first::check_bytes(
-            &self.program,
-            &self.record,
-            &mut self.order,
-            &mut self.cells,
-        )
-    }
-
-    /// The second program's.
-    fn second(&mut self) -> Answer {
-        check_bytes(
-            &self.program,
-            &self.record,
-            &mut self.order,
-            &mut self.cells,
-        )
-    }
-
-    /// The answer that both programs give, with the same lists.
-    fn agreed(&mut self) -> Result<Answer, String> {
-        let first = self.first();
-        let lists = (self.order.clone(), self.cells.clone());
+    /// Clears the memory, calls, and gives what was told and filled.
+    fn filled(&mut self, call: fn(&mut Input) -> (u8, usize)) -> ((u8, usize), [Vec<u8>; 3]) {
         self.order.fill(0);
         self.cells.fill(0);
-        let second = self.second();
-        if first != second || lists != (self.order.clone(), self.cells.clone()) {
+        self.text.fill(0);
+        let told = call(self);
+        (
+            told,
+            [self.order.clone(), self.cells.clone(), self.text.clone()],
+        )
+    }
+
+    /// The number that both programs tell, with the same value and the same memory.
+    fn agreed(&mut self, work: &Work) -> Result<u8, String> {
+        let (first, second) = (self.filled(work.first), self.filled(work.second));
+        if first != second {
+            let (first, second) = (first.0, second.0);
             return Err(format!(
-                "the first answers {first:?}, the second {second:?}, or their lists differ"
+                "{}: the first tells {first:?}, the second {second:?}, or their memory differs",
+                work.name
             ));
         }
-        Ok(first)
+        Ok(first.0 .0)
     }
 
     /// A batch of each program on this input: microseconds for a call.
-    fn turn(&mut self, first_calls: usize, second_calls: usize) -> Times {
+    fn turn(&mut self, work: &Work, first_calls: usize, second_calls: usize) -> Times {
         Times {
-            first: batch(first_calls, || black_box(&mut *self).first()),
-            second: batch(second_calls, || black_box(&mut *self).second()),
+            first: batch(first_calls, || (work.first)(black_box(&mut *self))),
+            second: batch(second_calls, || (work.second)(black_box(&mut *self))),
         }
     }
 }
@@ -173,11 +215,16 @@ struct Times {
 }
 
 /// The medians of so many batches. Programs and inputs take turns, so that a slower or faster moment of the machine meets all of them.
-fn measure(inputs: &mut [Input], first_calls: usize, second_calls: usize) -> Vec<Times> {
+fn measure(
+    work: &Work,
+    inputs: &mut [Input],
+    first_calls: usize,
+    second_calls: usize,
+) -> Vec<Times> {
     let mut turns: Vec<Vec<Times>> = vec![Vec::new(); inputs.len()];
     for _ in 0..=BATCHES {
         for (input, times) in inputs.iter_mut().zip(&mut turns) {
-            times.push(input.turn(first_calls, second_calls));
+            times.push(input.turn(work, first_calls, second_calls));
         }
     }
     let medians = |times: Vec<Times>| Times {
@@ -203,59 +250,60 @@ fn median(mut times: Vec<f64>) -> f64 {
     times[times.len() / 2]
 }
 
-/// Whether an answer is a ring, and what it is if it is a refusal.
-fn is_ring(answer: Answer) -> Result<bool, String> {
-    match answer {
-        Answer::Order(_) => Ok(false),
-        Answer::Ring(_) => Ok(true),
-        Answer::Refused(refusal) => Err(format!("refused: {refusal:?}")),
-    }
-}
-
-/// Measures the records of a shape, prints a line for each, and says whether the first program's time grows in step with the items.
-fn measured(shape: &Shape) -> Result<bool, String> {
+/// Measures a function on the records of a shape, prints a line for each, and says whether the first program's time grows in step with the items.
+fn measured(work: &Work, shape: &Shape) -> Result<bool, String> {
     let mut inputs = LENGTHS.map(|items| Input::of(shape, items));
     for input in &mut inputs {
-        if is_ring(input.agreed()?)? != shape.cyclic {
+        let verdict = if shape.cyclic {
+            first::RING
+        } else {
+            first::ORDER
+        };
+        if input.agreed(&WORKS[0])? != verdict {
             return Err(format!("{}: not a record of its shape", shape.name));
         }
+        input.agreed(work)?;
     }
-    let times = measure(&mut inputs, FIRST_CALLS, SECOND_CALLS);
+    let times = measure(work, &mut inputs, FIRST_CALLS, SECOND_CALLS);
+    let name = format!("{:7} {:7}", work.name, shape.name);
     for (items, Times { first, second }) in LENGTHS.into_iter().zip(&times) {
         let each = 1e3 * first / items as f64;
         let ratio = first / second;
-        println!(
-            "{:8} {items:5} {first:9.2} {each:8.1} {second:10.1} {ratio:13.3}",
-            shape.name
-        );
+        println!("{name} {items:5} {first:9.2} {each:8.1} {second:10.1} {ratio:13.3}");
     }
     let growth = times[1].first / times[0].first;
     let linear = growth <= MOST_GROWTH;
     let verdict = if linear { "ok" } else { "TOO MUCH" };
-    println!("{:8} 1,024 items cost {growth:.2} times what 512 cost; at most {MOST_GROWTH:.1} is allowed: {verdict}", shape.name);
+    println!("{name} 1,024 items cost {growth:.2} times what 512 cost; at most {MOST_GROWTH:.1} is allowed: {verdict}");
     Ok(linear)
 }
 
-/// Measures run b.
-fn run_b() -> Result<(), String> {
+/// Measures a function on run b.
+fn run_b(work: &Work) -> Result<(), String> {
     let (program, record) = RUN_B;
     let mut input = Input::new(program.to_vec(), record.to_vec());
-    let answer = input.agreed()?;
-    let Times { first, second } = measure(&mut [input], RUN_B_CALLS, RUN_B_CALLS)[0];
-    println!("run b: {answer:?}; a call costs first {first:.2} us, second {second:.2} us, first/second {:.2}", first / second);
+    input.agreed(work)?;
+    let Times { first, second } = measure(work, &mut [input], RUN_B_CALLS, RUN_B_CALLS)[0];
+    println!(
+        "{:7} run b: a call costs first {first:.2} us, second {second:.2} us, first/second {:.2}",
+        work.name,
+        first / second
+    );
     Ok(())
 }
 
-/// Measures all shapes and run b.
+/// Measures all functions on all shapes and on run b.
 fn bench() -> Result<bool, String> {
     println!("{MEASURED}");
     println!("Each time is the median of {BATCHES} batches, programs and lengths by turns, after a batch to warm up.");
-    println!("         items  first us  ns/item  second us  first/second");
+    println!("                items  first us  ns/item  second us  first/second");
     let mut linear = true;
-    for shape in &SHAPES {
-        linear &= measured(shape)?;
+    for work in &WORKS {
+        for shape in &SHAPES {
+            linear &= measured(work, shape)?;
+        }
+        run_b(work)?;
     }
-    run_b()?;
     Ok(linear)
 }
 
