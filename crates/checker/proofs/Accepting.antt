@@ -1,53 +1,22 @@
 -- The ends of the conclusion: what the replay's answer tells of the definition's acceptance gives the definition's result at each.
 use Prim.Native.Nat.{ℕ}
-use mathlib.Core.Path.{_≡_, refl, ap}
+use mathlib.Core.Path.{_≡_}
 use mathlib.Core.List.{List}
-use native.Mathlib.Omega.{arith}
-use lib.ListN.{length}
 use Rattle.model.specs.declared.Header.{Header}
 use Rattle.model.specs.declared.Refusal.{Refusal}
-use Rattle.model.specs.Refusals.{Result, ok, refused}
+use Rattle.model.specs.Refusals.{Result}
 use Rattle.model.specs.Machine.{Start}
-use Rattle.model.specs.Checks.{Accepted, accept, Verdicts, checkResult}
-use Rattle.memory.specs.Tables.{Table, cellsSize}
-use Rattle.memory.specs.Copies.{tableOf}
+use Rattle.model.specs.Checks.{accept, Verdicts, checkResult}
+use Rattle.memory.specs.Tables.{Table}
 use Rattle.replay.specs.declared.Acceptance as Acceptance
 use Rattle.replay.specs.declared.Acceptance.{Acceptance}
-use Rattle.replay.specs.Trails.{trailOf}
 use Rattle.replay.specs.Handed.{Lent, HandsOver}
+use Rattle.replay.proofs.Accepting.{accept-refused, accept-found}
 use Rattle.checker.specs.declared.conclusion.Room.{Room}
 use Rattle.checker.specs.declared.conclusion.Concluded.{Concluded}
-use Rattle.checker.specs.Concluded.{refusedWith, acceptedWith, verdictTold, Concludes}
+use Rattle.judging.specs.Told.{verdictTold}
+use Rattle.checker.specs.Concluded.{refusedWith, acceptedWith, Concludes}
 use Rattle.checker.proofs.Concluding.{replay-refused, concludes-refused, concludes-accepted}
-
--- An accepted record, with what is known of it where the replay answers so.
-record Accepts (m : Result Accepted) (after : Lent) (header : Header) (items groups : ℕ) : Type 0 where
-  a : Accepted
-  is : m ≡ ok a
-  header-is : header ≡ a .program .header
-  items-is : items ≡ length (a .run .events)
-  groups-is : groups ≡ a .run .last .opened
-  cells-is : after .cells ≡ tableOf cellsSize (a .run .last .machine .cells)
-  trail-is : after .trail ≡ trailOf (a .run .events)
-
-module _ {before after : Lent} {r : Acceptance} where
-  accept-refused : (m : Result Accepted) {x : Refusal} → HandsOver m before after r → r ≡ Acceptance.the-variants.Refused x → m ≡ refused x
-  accept-refused (ok a) h found = let z : _≡_ {A = ℕ} 0 1 = cc (h .answers) in absurd (omega arith)
-  accept-refused (refused y) {x} h found = let same : y ≡ x = cc (h .answers) in ap refused same
-
-  accept-found : (m : Result Accepted) {header : Header} {items groups : ℕ} → HandsOver m before after r →
-      r ≡ Acceptance.the-variants.Accepted header items groups → Accepts m after header items groups
-  accept-found (ok a) h found =
-      record {
-        a = a;
-        is = refl;
-        header-is = cc (h .answers);
-        items-is = cc (h .answers);
-        groups-is = cc (h .answers);
-        cells-is = ap (λ (l : Lent). l .cells) (h .leaves);
-        trail-is = ap (λ (l : Lent). l .trail) (h .leaves);
-      }
-  accept-found (refused y) h found = let z : _≡_ {A = ℕ} 0 1 = cc (h .answers) in absurd (omega arith)
 
 -- What is concluded of numbers and tables is concluded of equal ones.
 told-accepted : {m : Result Verdicts} {room : Room} {header header′ : Header} {items items′ groups groups′ : ℕ} {cells cells′ trail trail′ : Table} →

@@ -12,7 +12,7 @@ use Rattle.model.specs.Checks.{Verdicts, Outcome, fill, entryBytes, outcome, ou
 use Rattle.model.proofs.Laws.{when-true}
 use Rattle.memory.specs.Tables.{Table, cellsSize, zeros}
 use Rattle.memory.specs.Copies.{startIn}
-use Rattle.memory.proofs.Stores.{zeros-number}
+use Rattle.memory.proofs.Stores.{zero-start}
 use Rattle.lists.specs.Written.{numbersWritten, wordsWritten, cellsListed, cellsWritten, cellWordsWritten}
 use Rattle.lists.proofs.Room.{CellsFit, true-cells-fit}
 use Rattle.lists.proofs.Results.{groups-written, group-words-written}
@@ -24,11 +24,6 @@ use Rattle.checker.specs.declared.conclusion.Room.{Room}
 use Rattle.checker.specs.declared.conclusion.Concluded.{Concluded}
 use Rattle.checker.specs.Concluded.{answerIn, listedIn, cellsIn, Concludes}
 use Rattle.checker.specs.Checked.{definition, answering, Checked}
-
--- "cells and registers start at 0"
-zero-start : startIn (zeros cellsSize) ≡ zeroStart
-unfolding zeroStart
-zero-start = fun-ext λ rank. fun-ext λ cell. zeros-number cellsSize rank cell
 
 -- Lists of each form, after groups and after cells are written.
 abbrev pub groupsInto : Form → (list groups : List ℕ) → (count : ℕ) → List ℕ

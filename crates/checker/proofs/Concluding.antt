@@ -1,51 +1,52 @@
 -- What is concluded is the definition's result. A refusal lists nothing. The verdict on what the trail of an accepted record tells is the verdict on
 -- its run, it lists no more groups than there are, and the table of cells holds the run's last cells.
-use Prim.Native.Nat.{ℕ, _≤_}
-use mathlib.Core.Path.{_≡_, refl, ap₂}
+use Prim.Native.Nat.{ℕ}
+use mathlib.Core.Path.{_≡_, refl, ap, _∙_}
 use mathlib.Core.Bool.{Bool, true, false}
 use mathlib.Core.List.{List}
 use native.Mathlib.Omega.{arith}
 use lib.Dec.{leb}
 use lib.ListN.{length}
 use borrow.Author.Tests.{leb-true}
+use Rattle.model.specs.declared.Answer.{Answer}
 use Rattle.model.specs.declared.Header.{Header}
 use Rattle.model.specs.declared.Refusal.{Refusal}
 use Rattle.model.specs.Refusals.{Result, ok, refused, orderTooShort, memoryTooShort}
 use Rattle.model.specs.Machine.{Start}
-use Rattle.model.specs.Replay.{Replayed}
-use Rattle.model.specs.HappensBefore.{edgesOf}
-use Rattle.model.specs.Orders.{Verdict, ordered, cyclic, verdict}
+use Rattle.model.specs.Orders.{Verdict}
 use Rattle.model.specs.Checks.{Accepted, accept, verdictOn, lastCells, listed, Verdicts, checkResult}
 use Rattle.model.proofs.Laws.{decided}
-use Rattle.ordering.proofs.Orders.{cycle-length}
-use Rattle.ordering.proofs.Runs.{run-order, run-cycle}
 use Rattle.record_facts.proofs.Bounds.{accepted-bounds}
 use Rattle.memory.specs.Tables.{Table, cellsSize, numberAt}
 use Rattle.memory.specs.Copies.{tableOf}
 use Rattle.memory.proofs.Filled.{made-holds}
-use Rattle.graph.proofs.Edges.{groups-in}
+use Rattle.graph.specs.Edges.{groupList}
 use Rattle.lists.proofs.Ranks.{rank-none}
 use Rattle.lists.proofs.Results.{cells-listed}
 use Rattle.replay.specs.Trails.{trailOf}
-use Rattle.happens_before.proofs.Accepted.{TellableRun, accepted-tellable, run-drawn}
+use Rattle.happens_before.proofs.Accepted.{accepted-tellable}
+use Rattle.verdicts.specs.declared.Judged.{Judged}
+use Rattle.verdicts.specs.Judged as verdicts
+use Rattle.verdicts.specs.Judged.{answerOf}
+use Rattle.verdicts.proofs.Answers.{answer-is}
+use Rattle.judging.specs.Told.{verdictTold}
+use Rattle.judging.proofs.Accepted.{verdict-told, verdict-lists}
 use Rattle.demands.specs.Demands.{groupsOf, cellsOf}
 use Rattle.checker.specs.declared.conclusion.Room.{Room}
-use Rattle.checker.specs.Concluded.{refusedWith, judgedAs, acceptedWith, verdictTold, Concludes}
+use Rattle.checker.specs.declared.conclusion.Concluded.{Concluded}
+use Rattle.checker.specs.Concluded.{refusedWith, judgedAs, acceptedWith, Concludes}
 
--- A run whose events can be told.
-module _ (run : Replayed) (t : TellableRun run) where
-  verdict-told : verdictTold (run .last .opened) (length (run .events)) (trailOf (run .events)) ≡ verdictOn run
-  unfolding verdictOn
-  verdict-told = ap₂ verdict (groups-in (run .last .opened) (omega (arith, t .opened, t .few))) (run-drawn t)
+-- A conclusion from what was judged, before it is known what its groups are.
+abbrev withGroups : (ranks width : ℕ) → (list : List ℕ) → (count : ℕ) → Answer → Concluded
+withGroups ranks width list count answer = record { answer = answer; count = count; groups = list; ranks = ranks; width = width }
 
-  few-listed : (v : Verdict) → verdict (run .last .opened) (edgesOf (run .events)) ≡ v → length (listed v) ≤ run .last .opened
-  few-listed (ordered l) is = omega (arith, run-order (run .last .opened) (run .events) (t .groups) l is .count)
-  few-listed (cyclic l) is =
-      cycle-length (run .last .opened) (edgesOf (run .events)) l (run-cycle (run .last .opened) (run .events) (t .groups) l is)
-
-  listed-fits : length (listed (verdictOn run)) ≤ run .last .opened
-  unfolding verdictOn
-  listed-fits = few-listed (verdictOn run) refl
+pub concludes-verdict : (v : Verdict) (ranks width : ℕ) {judged : Judged} {answer : Answer} → judged ≡ verdicts.judgedAs v →
+    answer ≡ answerOf (judged .cyclic) (judged .count) →
+    withGroups ranks width (judged .groups) (judged .count) answer ≡ judgedAs v ranks width
+concludes-verdict v ranks width {judged} judged-is answers =
+    ap (withGroups ranks width (judged .groups) (judged .count)) answers
+    ∙ ap (λ (j : Judged). withGroups ranks width (j .groups) (j .count) (answerOf (j .cyclic) (j .count))) judged-is
+    ∙ ap (withGroups ranks width (groupList (listed v)) (length (listed v))) (answer-is v)
 
 module _ (start : Start) (program recorded : List ℕ) (room : Room) where
   abbrev result : Result Verdicts
@@ -109,7 +110,7 @@ module _ (start : Start) (program recorded : List ℕ) (room : Room) where
           counts = refl;
           lists = refl;
           fills = cells-listed _ cells (made-holds cellsSize cells) (header .ranks) (header .cells) (fits .ranksFit) (fits .cellsFit);
-          list-fits = omega (arith, listed-fits (a .run) tellable, leb-true (groupsOf a) (room .groups) t);
+          list-fits = omega (arith, verdict-lists (a .run) tellable .few, leb-true (groupsOf a) (room .groups) t);
           cells-fit =
               record { few-ranks = fits .ranksFit; few-cells = fits .cellsFit; room = leb-true (cellsOf a) (room .cells) u };
         })

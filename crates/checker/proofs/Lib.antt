@@ -1,4 +1,3 @@
 pub mod Concluding
-pub mod Judging
 pub mod Accepting
 pub mod Checking

@@ -1,32 +1,23 @@
 -- What is to be answered and written, by the definition's result, before anything is written.
 use Prim.Native.Nat.{ℕ, _*_, _≤_}
 use mathlib.Core.Path.{_≡_}
-use mathlib.Core.Bool.{Bool, true, false}
 use mathlib.Core.List.{List, []}
 use lib.Dec.{leb}
 use lib.ListN.{length}
 use Rattle.model.specs.declared.Answer.{Answer}
-use Rattle.model.specs.declared.Answer.the-variants.{Order, Ring, Refused}
+use Rattle.model.specs.declared.Answer.the-variants.{Refused}
 use Rattle.model.specs.declared.Header.{Header}
 use Rattle.model.specs.declared.Refusal.{Refusal}
 use Rattle.model.specs.Refusals.{Result, ok, refused, orderTooShort, memoryTooShort}
 use Rattle.model.specs.Choice.{when}
-use Rattle.model.specs.HappensBefore.{edgesOf}
-use Rattle.model.specs.Orders.{Verdict, verdict}
+use Rattle.model.specs.Orders.{Verdict}
 use Rattle.model.specs.Checks.{Verdicts, listed, answered}
 use Rattle.memory.specs.Tables.{Table}
-use Rattle.graph.specs.Edges.{groupsIn, graphIn, groupList}
+use Rattle.graph.specs.Edges.{groupList}
 use Rattle.lists.specs.Written.{cellsListed}
 use Rattle.lists.proofs.Room.{CellsFit}
-use Rattle.happens_before.specs.Told.{eventsTold}
-use Rattle.happens_before.specs.Drawn.{Drawn, drawnAs}
 use Rattle.checker.specs.declared.conclusion.Room.{Room}
 use Rattle.checker.specs.declared.conclusion.Concluded.{Concluded}
-
--- An order or a ring, of so many groups.
-abbrev pub answerOf : (cyclic : Bool) → (count : ℕ) → Answer
-answerOf false count = Order count
-answerOf true count = Ring count
 
 -- An answer with these groups to list, and these cells.
 abbrev pub concludedAs : Answer → (groups : List ℕ) → (ranks width : ℕ) → Concluded
@@ -49,13 +40,6 @@ acceptedWith room header groups v =
     (λ _. judgedAs v (header .ranks) (header .cells))
     (λ _. refusedWith (record { number = memoryTooShort; place = header .ranks * header .cells })))
     (λ _. refusedWith (record { number = orderTooShort; place = groups }))
-
--- The verdict on so many groups and the arrows that the first rows of a trail tell of, by way of a table of arrows.
-abbrev pub verdictDrawn : (groups : ℕ) → Drawn → Verdict
-verdictDrawn groups drawn = verdict (groupsIn groups) (graphIn groups (drawn .count) (drawn .edges))
-
-abbrev pub verdictTold : (groups items : ℕ) → (trail : Table) → Verdict
-verdictTold groups items trail = verdictDrawn groups (drawnAs (edgesOf (eventsTold items trail)))
 
 -- What is answered, and what is to be written.
 abbrev pub answerIn : Result Verdicts → Answer

@@ -1,8 +1,6 @@
 // What is to be answered and written, for lists of so many entries, before anything is written.
-use graph::EDGES;
-use graph::ENDPOINTS;
 use graph::Groups;
-use happens_before::edges_of;
+use judging::judge;
 use model::Answer;
 use model::Cells;
 use model::Header;
@@ -16,11 +14,12 @@ use model::refusals::MEMORY_TOO_SHORT;
 use model::refusals::ORDER_TOO_SHORT;
 use replay::Acceptance;
 use replay::replay;
-use verdicts::verdict;
+use verdicts::answer_of;
 ghost use mathlib.Core.Path.{_≡_};
 ghost use Rattle.model.specs.Checks.{checkResult};
 ghost use Rattle.memory.specs.Copies.{startIn};
-ghost use Rattle.checker.specs.Concluded.{answerOf, refusedWith, judgedAs, acceptedWith, verdictTold, Concludes};
+ghost use Rattle.judging.specs.Told.{verdictTold};
+ghost use Rattle.checker.specs.Concluded.{refusedWith, judgedAs, acceptedWith, Concludes};
 
 // How many entries the lent lists have, for groups and for cells.
 pub struct Room {
@@ -50,23 +49,11 @@ fn refused(refusal: Refusal) -> Concluded
     }
 }
 
-// An order or a ring, of so many groups.
-fn answer_of(cyclic: bool, count: usize) -> Answer
-    ensures { λ r. ⌜ r ≡ answerOf cyclic count ⌝ }
-{
-    if cyclic {
-        return Answer::Ring(count);
-    }
-    Answer::Order(count)
-}
-
 // What the arrows of an accepted record come to.
-fn judge(trail: &Trail, items: usize, groups: u16, header: Header) -> Concluded
+fn verdict_on(trail: &Trail, items: usize, groups: u16, header: Header) -> Concluded
     ensures { λ r. ⌜ r ≡ judgedAs (verdictTold groups items (now (trail .entry))) (header .ranks) (header .cells) ⌝ }
 {
-    let mut edges = [[0; ENDPOINTS]; EDGES];
-    let drawn = edges_of(trail, items, &mut edges);
-    let judged = verdict(groups, &edges, drawn);
+    let judged = judge(trail, items, groups);
     let listed = judged.groups;
     Concluded {
         answer: answer_of(judged.cyclic, judged.count),
@@ -95,7 +82,7 @@ fn accepted(room: Room, header: Header, items: usize, groups: u16, trail: &Trail
             place: needed,
         });
     }
-    judge(trail, items, groups, header)
+    verdict_on(trail, items, groups, header)
 }
 
 // The whole check but for the writing. `cells` holds the start, and then the last cells of an accepted record.

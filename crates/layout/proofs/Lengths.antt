@@ -6,12 +6,13 @@ use native.Mathlib.Omega.{arith}
 use lib.ListN.{length, length-append}
 use Rattle.model.specs.declared.Kind.{Kind}
 use Rattle.model.specs.Listings.{decimal, line}
+use Rattle.verdicts.specs.Judged.{answerOf}
 use Rattle.lines.specs.Lines.{answerLine, groupEntry, cellEntry}
 use Rattle.model.proofs.Listings.{decimal-few, kind-short}
 use Rattle.lines.proofs.GroupLines.{group-length}
 use Rattle.layout.specs.declared.line.Line.{Line}
 use Rattle.layout.specs.declared.line.Line.the-variants.{Verdict, Group, Cell, Nothing}
-use Rattle.layout.specs.Lines.{answerOf, bytesOf, longest, Measures}
+use Rattle.layout.specs.Lines.{bytesOf, longest, Measures}
 
 -- A number that fits a machine word.
 abbrev Word : ℕ → Type 0

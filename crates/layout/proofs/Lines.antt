@@ -14,6 +14,7 @@ use Rattle.model.specs.Limits.{maxItems}
 use Rattle.model.specs.Choice.{numbersFrom}
 use Rattle.memory.specs.Tables.{Table, cellsSize, numberAt}
 use Rattle.lines.specs.Texts.{Wrote}
+use Rattle.verdicts.specs.Judged.{answerOf}
 use Rattle.lines.specs.Lines.{answerLine, groupEntry, cellEntry}
 use Rattle.lines.proofs.Texts.{wrote-all, fill-none}
 use Rattle.first_items.specs.declared.First as First
@@ -22,7 +23,7 @@ use Rattle.first_items.specs.Firsts.{firstOf}
 use Rattle.layout.specs.declared.line.Line.{Line}
 use Rattle.layout.specs.declared.line.Line.the-variants.{Verdict, Group, Cell, Nothing}
 use Rattle.layout.specs.Laid.{Laid, layOut, LaysOut}
-use Rattle.layout.specs.Lines.{answerOf, bytesOf, rankShown, groupLineOn, groupLinesOn}
+use Rattle.layout.specs.Lines.{bytesOf, rankShown, groupLineOn, groupLinesOn}
 use Rattle.layout.specs.Lines.{cellLineOn, rankLinesOn, cellLinesOn, textLines}
 use Rattle.layout.proofs.Laid.{laid-all, linesLeft, all-lines, ranksLeft, all-ranks}
 

@@ -1,12 +1,10 @@
 -- The lines of a listing, by the arrays that the code has.
 use Prim.Native.Nat.{ℕ, _≤_, min}
 use mathlib.Core.Path.{_≡_}
-use mathlib.Core.Bool.{Bool, true, false}
+use mathlib.Core.Bool.{Bool}
 use mathlib.Core.List.{List, [], _∷_, _++_, map}
 use lib.Dec.{eqb}
 use lib.ListN.{length, getD}
-use Rattle.model.specs.declared.Answer.{Answer}
-use Rattle.model.specs.declared.Answer.the-variants.{Order, Ring}
 use Rattle.model.specs.declared.Header.{Header}
 use Rattle.model.specs.declared.Item.{Item}
 use Rattle.model.specs.Limits.{maxItems}
@@ -14,17 +12,13 @@ use Rattle.model.specs.Choice.{when, numbersFrom}
 use Rattle.model.specs.ItemKinds.{isBar}
 use Rattle.model.specs.Checks.{rankByRank}
 use Rattle.memory.specs.Tables.{Table, cellsSize, numberAt}
+use Rattle.verdicts.specs.Judged.{answerOf}
 use Rattle.lines.specs.Lines.{answerLine, groupEntry, cellEntry}
 use Rattle.first_items.specs.declared.First as First
 use Rattle.first_items.specs.declared.First.{First}
 use Rattle.first_items.specs.Firsts.{firstOf}
 use Rattle.layout.specs.declared.line.Line.{Line}
 use Rattle.layout.specs.declared.line.Line.the-variants.{Verdict, Group, Cell, Nothing}
-
--- An order or a ring, of so many groups.
-abbrev pub answerOf : (cyclic : Bool) → (count : ℕ) → Answer
-answerOf false count = Order count
-answerOf true count = Ring count
 
 -- A line's bytes.
 unfoldable pub bytesOf : Line → List ℕ

@@ -1,6 +1,5 @@
 // The text of a listing, line by line into lent bytes. What does not fit is counted all the same, so that the length is known before anything is
 // written.
-pub mod answer;
 mod cells;
 mod groups;
 mod line;

@@ -1,5 +1,4 @@
 // One line of a listing, put into the rest of a text.
-use crate::answer::answer_of;
 use lines::answer_length;
 use lines::cell_length;
 use lines::group_length;
@@ -7,6 +6,7 @@ use lines::write_answer;
 use lines::write_cell;
 use lines::write_group;
 use model::Kind;
+use verdicts::answer_of;
 ghost use mathlib.Core.List.{[], _∷_};
 ghost use Prim.Native.Nat.{_≤_};
 ghost use Rattle.lines.specs.Texts.{Wrote};

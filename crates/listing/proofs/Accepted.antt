@@ -1,64 +1,31 @@
 -- The listing of an accepted record: its trail tells the run's verdict, whose groups all have a first item, and the cells are the run's last ones.
-use Prim.Native.Nat.{ℕ, _≤_, _<_}
-use mathlib.Core.Path.{_≡_, refl, ap, ap₂, _∙_}
+use Prim.Native.Nat.{ℕ}
+use mathlib.Core.Path.{_≡_, ap, ap₂, _∙_}
 use mathlib.Core.List.{List, _++_}
-use mathlib.Core.Option.{some}
 use native.Mathlib.Omega.{arith}
-use lib.ListN.{length, getElem?}
+use lib.ListN.{length}
 use Rattle.model.specs.declared.Header.{Header}
-use Rattle.model.specs.Limits.{maxItems}
 use Rattle.model.specs.Refusals.{ok}
 use Rattle.model.specs.Machine.{Start}
-use Rattle.model.specs.Replay.{Replayed}
-use Rattle.model.specs.HappensBefore.{edgesOf}
-use Rattle.model.specs.Orders.{Verdict, ordered, cyclic, verdict}
 use Rattle.model.specs.Checks.{Accepted, accept, verdictOn, listed, answered}
 use Rattle.model.specs.Listings.{line, groupLines, cellLine, join, listingOf, printed, printedOf}
 use Rattle.ordering.proofs.Lists.{at-position}
-use Rattle.ordering.proofs.Orders.{cycle-length}
-use Rattle.ordering.proofs.Runs.{run-order, run-cycle}
+use Rattle.ordering.proofs.Runs.{Listed}
 use Rattle.record_facts.proofs.Bounds.{accepted-bounds}
 use Rattle.memory.specs.Tables.{Table, cellsSize}
 use Rattle.memory.specs.Copies.{tableOf}
 use Rattle.graph.specs.Edges.{groupList}
-use Rattle.graph.proofs.Edges.{groups-in}
 use Rattle.lines.specs.Lines.{answerLine}
 use Rattle.replay.specs.Trails.{trailOf}
-use Rattle.happens_before.proofs.Accepted.{TellableRun, accepted-tellable, run-drawn}
+use Rattle.happens_before.proofs.Accepted.{TellableRun, accepted-tellable}
+use Rattle.verdicts.proofs.Answers.{answer-is}
+use Rattle.judging.specs.Told.{verdictTold}
+use Rattle.judging.proofs.Accepted.{verdict-told, verdict-lists}
 use Rattle.first_items.specs.Firsts.{firstItems}
 use Rattle.first_items.proofs.Accepted.{accepted-firsts}
 use Rattle.layout.specs.Lines.{bytesOf, groupLinesOn, cellLinesOn, textLines}
-use Rattle.listing.specs.Told.{verdictTold, textOf, printedVerdict}
-use Rattle.listing.proofs.Lines.{answer-is, verdict-line, join-append, groups-lines, cells-lines}
-
--- A run whose events can be told, and the groups that its verdict lists.
-module _ (run : Replayed) (t : TellableRun run) where
-  verdict-told : verdictTold (run .last .opened) (length (run .events)) (trailOf (run .events)) ≡ verdictOn run
-  unfolding verdictTold verdictOn
-  verdict-told = ap₂ verdict (groups-in (run .last .opened) (omega (arith, t .opened, t .few))) (run-drawn t)
-
-  abbrev below : Verdict → Type 0
-  below v = (i g : ℕ) → getElem? (listed v) i ≡ some g → g < maxItems
-
-  few-listed : (v : Verdict) → verdict (run .last .opened) (edgesOf (run .events)) ≡ v → length (listed v) ≤ maxItems
-  few-listed (ordered l) is = omega (arith, run-order (run .last .opened) (run .events) (t .groups) l is .count, t .opened, t .few)
-  few-listed (cyclic l) is =
-      let cycle = run-cycle (run .last .opened) (run .events) (t .groups) l is in
-      omega (arith, cycle-length (run .last .opened) (edgesOf (run .events)) l cycle, t .opened, t .few)
-
-  low-listed : (v : Verdict) → verdict (run .last .opened) (edgesOf (run .events)) ≡ v → below v
-  low-listed (ordered l) is i g at =
-      omega (arith, run-order (run .last .opened) (run .events) (t .groups) l is .below g (at-position l i at), t .opened, t .few)
-  low-listed (cyclic l) is i g at =
-      omega (arith, run-cycle (run .last .opened) (run .events) (t .groups) l is .below g (at-position l i at), t .opened, t .few)
-
-  listed-few : length (listed (verdictOn run)) ≤ maxItems
-  unfolding verdictOn
-  listed-few = few-listed (verdictOn run) refl
-
-  listed-low : below (verdictOn run)
-  unfolding verdictOn
-  listed-low = low-listed (verdictOn run) refl
+use Rattle.listing.specs.Told.{textOf, printedVerdict}
+use Rattle.listing.proofs.Lines.{verdict-line, join-append, groups-lines, cells-lines}
 
 module _ (start : Start) (program recorded : List ℕ) (a : Accepted) (accepted : accept start program recorded ≡ ok a) where
   abbrev header : Header
@@ -76,6 +43,9 @@ module _ (start : Start) (program recorded : List ℕ) (a : Accepted) (accepted 
   t : TellableRun (a .run)
   t = accepted-tellable start program recorded a accepted
 
+  lists : Listed (a .run .last .opened) (verdictOn (a .run))
+  lists = verdict-lists (a .run) t
+
   -- The text on arrays is the definition's.
   text-is : textOf (verdictOn (a .run)) recorded header trail items cells ≡ listingOf a (verdictOn (a .run))
   unfolding textOf textLines join bytesOf listingOf
@@ -88,8 +58,10 @@ module _ (start : Start) (program recorded : List ℕ) (a : Accepted) (accepted 
       (join-append (groupLinesOn (groupList (listed v)) (length (listed v)) header recorded firsts)
       (cellLinesOn cells (header .ranks) (header .cells))
       ∙ ap₂ _++_
-      (groups-lines (listed v) header recorded firsts (a .run .events) (listed-few (a .run) t)
-      (λ i g at. accepted-firsts start program recorded a accepted g (listed-low (a .run) t i g at)))
+      (groups-lines (listed v) header recorded firsts (a .run .events) (omega (arith, lists .few, t .opened, t .few))
+      (λ i g at.
+      let low = lists .low g (at-position (listed v) i at) in
+      accepted-firsts start program recorded a accepted g (omega (arith, low, t .opened, t .few))))
       (ap join (cells-lines (a .run .last .machine .cells) (header .ranks) (header .cells) (fits .ranksFit) (fits .cellsFit))))
 
   -- So what is printed is.

@@ -21,15 +21,10 @@ use Rattle.memory.proofs.Filled.{made-holds}
 use Rattle.graph.specs.Edges.{groupList}
 use Rattle.graph.proofs.Edges.{read-each, filled-at}
 use Rattle.lines.specs.Lines.{answerLine, groupEntry, cellEntry}
-use Rattle.verdicts.specs.Judged.{isCyclic}
 use Rattle.first_items.specs.Firsts.{firstIn, firstOf}
-use Rattle.layout.specs.Lines.{answerOf, bytesOf, rankShown, firstLine, groupLineOn, groupLinesOn, cellLineOn, cellLinesOn}
+use Rattle.layout.specs.Lines.{bytesOf, rankShown, firstLine, groupLineOn, groupLinesOn, cellLineOn, cellLinesOn}
 
--- The answer that the code makes of a verdict, and its line.
-pub answer-is : (v : Verdict) → answerOf (isCyclic v) (length (listed v)) ≡ answered v
-answer-is (ordered groups) = refl
-answer-is (cyclic groups) = refl
-
+-- The line of a verdict's answer.
 pub verdict-line : (v : Verdict) → answerLine (answered v) ≡ line (verdictWord v) (decimal (length (listed v)) ∷ [])
 unfolding answerLine
 verdict-line (ordered groups) = refl

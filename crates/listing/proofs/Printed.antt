@@ -17,15 +17,15 @@ use Rattle.model.specs.Listings.{join, refusedLine, printed, printedOf}
 use Rattle.model.proofs.Laws.{when-true, when-false}
 use Rattle.memory.specs.Tables.{Table}
 use Rattle.verdicts.specs.declared.Judged.{Judged}
-use Rattle.verdicts.specs.Judged.{judgedAs}
+use Rattle.verdicts.specs.Judged.{judgedAs, answerOf}
+use Rattle.verdicts.proofs.Answers.{answer-is}
 use Rattle.lines.specs.Texts.{written, Wrote}
 use Rattle.lines.specs.Lines.{answerLine}
 use Rattle.first_items.specs.Firsts.{firstItems}
 use Rattle.layout.specs.Laid.{Laid, laid, layOut}
-use Rattle.layout.specs.Lines.{answerOf, textLines}
+use Rattle.layout.specs.Lines.{textLines}
 use Rattle.layout.proofs.Texts.{laid-at, laid-whole}
 use Rattle.listing.specs.Told.{textOf, tooShort, printing, printedVerdict}
-use Rattle.listing.proofs.Lines.{answer-is}
 
 -- The two ends, by the length that was counted.
 module _ (memory : List ℕ) (answer : Answer) (text : List ℕ) {n : ℕ} (is : n ≡ length text) where

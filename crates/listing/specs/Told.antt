@@ -6,24 +6,14 @@ use Rattle.model.specs.declared.Answer.the-variants.{Refused}
 use Rattle.model.specs.declared.Header.{Header}
 use Rattle.model.specs.declared.Listed.{Listed}
 use Rattle.model.specs.Refusals.{memoryTooShort}
-use Rattle.model.specs.HappensBefore.{edgesOf}
-use Rattle.model.specs.Orders.{Verdict, verdict}
+use Rattle.model.specs.Orders.{Verdict}
 use Rattle.model.specs.Checks.{listed, answered}
 use Rattle.model.specs.Listings.{Listing, join, printed}
 use Rattle.memory.specs.Tables.{Table}
-use Rattle.graph.specs.Edges.{groupsIn, graphIn, groupList}
-use Rattle.happens_before.specs.Told.{eventsTold}
-use Rattle.happens_before.specs.Drawn.{Drawn, drawnAs}
+use Rattle.graph.specs.Edges.{groupList}
 use Rattle.verdicts.specs.Judged.{isCyclic}
 use Rattle.first_items.specs.Firsts.{firstItems}
 use Rattle.layout.specs.Lines.{textLines}
-
--- The verdict on so many groups and the arrows that the first rows of a trail tell of, by way of a table of arrows.
-abbrev pub verdictDrawn : (groups : ℕ) → Drawn → Verdict
-verdictDrawn groups drawn = verdict (groupsIn groups) (graphIn groups (drawn .count) (drawn .edges))
-
-unfoldable pub verdictTold : (groups items : ℕ) → (trail : Table) → Verdict
-verdictTold groups items trail = verdictDrawn groups (drawnAs (edgesOf (eventsTold items trail)))
 
 -- The text of a verdict.
 unfoldable pub textOf : Verdict → (recorded : List ℕ) → Header → (trail : Table) → (items : ℕ) → (cells : Table) → List ℕ

@@ -1,9 +1,6 @@
 // What is printed: the text of a verdict, or a refusal's line.
 use first_items::first_items;
-use graph::EDGES;
-use graph::ENDPOINTS;
-use happens_before::edges_of;
-use layout::answer::answer_of;
+use judging::judge;
 use layout::write_text;
 use lines::answer_length;
 use lines::write_answer;
@@ -14,13 +11,12 @@ use model::Listed;
 use model::Refusal;
 use model::Trail;
 use model::refusals::MEMORY_TOO_SHORT;
-use verdicts::Judged;
-use verdicts::verdict;
+use verdicts::answer_of;
 ghost use mathlib.Core.Path.{_≡_};
 ghost use Rattle.model.specs.Listings.{printedOf};
 ghost use Rattle.model.specs.Refusals as refusals;
-ghost use Rattle.verdicts.specs.Judged.{judgedAs};
-ghost use Rattle.listing.specs.Told.{verdictTold, tooShort, printing, printedVerdict};
+ghost use Rattle.judging.specs.Told.{verdictTold};
+ghost use Rattle.listing.specs.Told.{tooShort, printing, printedVerdict};
 
 // Where the lent bytes have no room for a text of this length: "15 with the bytes needed", and nothing is written.
 fn too_short(length: usize) -> Listed
@@ -46,15 +42,6 @@ pub fn print_refused(text: &mut [u8], refusal: Refusal) -> Listed
     }
     write_answer(text, answer);
     Listed { answer, length }
-}
-
-// The verdict on what a trail tells.
-fn judge(trail: &Trail, items: usize, groups: u16) -> Judged
-    ensures { λ r. ⌜ r ≡ judgedAs (verdictTold groups items (now (trail .entry))) ⌝ }
-{
-    let mut edges = [[0; ENDPOINTS]; EDGES];
-    let drawn = edges_of(trail, items, &mut edges);
-    verdict(groups, &edges, drawn)
 }
 
 // The listing of an accepted record, by what its replay handed over. The length is counted first, on no bytes.

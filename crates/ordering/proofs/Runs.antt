@@ -1,19 +1,21 @@
 -- The verdict on the edges of a run, in the words of the relation: in an order each edge and each chain goes forward, a cycle goes along edges, and
 -- where some number rises along every edge the verdict is an order.
-use Prim.Native.Nat.{ℕ, suc, _<_}
-use mathlib.Core.Path.{_≡_}
+use Prim.Native.Nat.{ℕ, suc, _<_, _≤_}
+use mathlib.Core.Path.{_≡_, refl}
 use mathlib.Core.Bool.{Bool}
 use mathlib.Core.List.{List}
 use mathlib.Core.Logic.{_⊎_, inl, inr}
 use mathlib.Core.Option.{some}
+use native.Mathlib.Omega.{arith}
 use lib.ListN.{length, getElem?}
 use Rattle.model.specs.Replay.{Event}
 use Rattle.model.specs.HappensBefore.{At, Follows, ProgramOrder, Conflict, HappensBefore, edgesOf}
-use Rattle.model.specs.Orders.{ordered, cyclic, verdict}
+use Rattle.model.specs.Orders.{Verdict, ordered, cyclic, verdict}
+use Rattle.model.specs.Checks.{listed}
 use Rattle.ordering.proofs.Edges.{_⟶_, edges-agree}
 use Rattle.ordering.proofs.Chains.{Reaches, reaches-relates}
-use Rattle.ordering.proofs.Lists.{Precedes, precedes-trans}
-use Rattle.ordering.proofs.Orders.{Proper, TopologicalOrder, Cycle}
+use Rattle.ordering.proofs.Lists.{_∈_, Precedes, precedes-trans}
+use Rattle.ordering.proofs.Orders.{Proper, TopologicalOrder, Cycle, cycle-length}
 use Rattle.ordering.proofs.Verdicts.{verdict-order, verdict-cycle, rising-ordered}
 
 -- By either reason, the one event stands before the other in the run, and nothing between them passes some test.
@@ -21,6 +23,11 @@ pub reason-follows : {events : List Event} {x y : Event} → ProgramOrder events
     (test : Event → Bool) × Follows events test x y
 reason-follows (inl r) = (_, r .next)
 reason-follows (inr r) = (_, r .nearest)
+
+-- The groups that a verdict on so many lists: no more than there are, and of those.
+pub record Listed (groups : ℕ) (v : Verdict) : Type 0 where
+  pub few : length (listed v) ≤ groups
+  pub low : (g : ℕ) → g ∈ listed v → g < groups
 
 -- A run whose groups are below a number.
 module _ (groups : ℕ) (events : List Event) (below : (i : ℕ) (e : Event) → At events i e → e .group < groups) where
@@ -63,3 +70,11 @@ module _ (groups : ℕ) (events : List Event) (below : (i : ℕ) (e : Event) →
   pub rising-run : (φ : ℕ → ℕ) → ((g h : ℕ) → HappensBefore events g h → φ g < φ h) → (l : List ℕ) × (verdict groups (edgesOf events) ≡ ordered l)
   rising-run φ rises =
       rising-ordered groups (edgesOf events) run-proper φ (λ e m. rises (e .from) (e .to) (edges-agree events (e .from) (e .to) .0 m))
+
+  -- What a verdict lists, be it an order or a cycle.
+  listed-by : (v : Verdict) → verdict groups (edgesOf events) ≡ v → Listed groups v
+  listed-by (ordered l) is = record { few = omega (arith, run-order l is .count); low = run-order l is .below }
+  listed-by (cyclic l) is = record { few = cycle-length groups (edgesOf events) l (run-cycle l is); low = run-cycle l is .below }
+
+  pub run-lists : Listed groups (verdict groups (edgesOf events))
+  run-lists = listed-by (verdict groups (edgesOf events)) refl

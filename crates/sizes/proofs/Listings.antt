@@ -11,13 +11,10 @@ use Rattle.model.specs.Limits.{maxItems, wordValues}
 use Rattle.model.specs.Refusals.{Result, ok, refused}
 use Rattle.model.specs.Bytes.{AreBytes}
 use Rattle.model.specs.Machine.{Start, zeroStart}
-use Rattle.model.specs.HappensBefore.{edgesOf}
-use Rattle.model.specs.Orders.{Verdict, ordered, cyclic, verdict}
+use Rattle.model.specs.Orders.{Verdict}
 use Rattle.model.specs.Checks.{Accepted, accept, verdictOn, listed, rankByRank, fill}
 use Rattle.model.specs.Listings.{listing, printed, printedOf, listingOf, line, verdictWord, decimal, groupLines, cellLine, join}
-use Rattle.ordering.proofs.Lists.{_∈_}
-use Rattle.ordering.proofs.Orders.{cycle-length}
-use Rattle.ordering.proofs.Runs.{run-order, run-cycle}
+use Rattle.ordering.proofs.Runs.{Listed, run-lists}
 use Rattle.record_facts.proofs.Bounds.{AcceptedBounds, accepted-bounds}
 use Rattle.sizes.specs.Sizes.{maxListingBytes}
 use Rattle.sizes.specs.Texts.{textOf, answerOf}
@@ -25,32 +22,13 @@ use Rattle.sizes.proofs.Refusals.{refusal-fits}
 use Rattle.sizes.proofs.Values.{cells-fit}
 use Rattle.sizes.proofs.Lengths.{RanksFit, verdict-line-short, group-lines-short, cell-lines-short, refused-line-short}
 
--- The groups that a verdict lists: how many they are, and how large.
-record Listed (v : Verdict) : Type 0 where
-  few : length (listed v) ≤ maxItems
-  low : (g : ℕ) → g ∈ listed v → g < maxItems
-
 module _ (a : Accepted) (b : AcceptedBounds a) where
-  abbrev groups : ℕ
-  groups = a .run .last .opened
-
-  verdict-lists : (v : Verdict) → verdict groups (edgesOf (a .run .events)) ≡ v → Listed v
-  verdict-lists (ordered l) is =
-      let order = run-order groups (a .run .events) (b .bounds .group) l is in
-      record {
-        few = omega (arith, order .count, b .bounds .most, b .few);
-        low = λ g m. omega (arith, order .below g m, b .bounds .most, b .few);
-      }
-  verdict-lists (cyclic l) is =
-      let cycle = run-cycle groups (a .run .events) (b .bounds .group) l is in
-      record {
-        few = omega (arith, cycle-length groups (edgesOf (a .run .events)) l cycle, b .bounds .most, b .few);
-        low = λ g m. omega (arith, cycle .below g m, b .bounds .most, b .few);
-      }
-
-  lists : Listed (verdictOn (a .run))
+  lists : Listed (a .run .last .opened) (verdictOn (a .run))
   unfolding verdictOn
-  lists = verdict-lists (verdictOn (a .run)) refl
+  lists = run-lists (a .run .last .opened) (a .run .events) (b .bounds .group)
+
+  few-listed : length (listed (verdictOn (a .run))) ≤ maxItems
+  few-listed = omega (arith, lists .few, b .bounds .most, b .few)
 
   ranks-fit : RanksFit (a .run .events)
   ranks-fit i e at = omega (arith, b .bounds .inside i e at .rank .high, b .header .ranksFit)
@@ -68,9 +46,9 @@ module _ (a : Accepted) (b : AcceptedBounds a) where
         arith,
         length-append first (middle ++ last),
         length-append middle last,
-        verdict-line-short v (length (listed v)) (lists .few),
-        group-lines-short (listed v) (a .run .events) (lists .low) (b .few) ranks-fit,
-        lists .few,
+        verdict-line-short v (length (listed v)) few-listed,
+        group-lines-short (listed v) (a .run .events) (λ g m. omega (arith, lists .low g m, b .bounds .most, b .few)) (b .few) ranks-fit,
+        few-listed,
         cell-lines-short (header .ranks) (header .cells) (a .run .last .machine .cells) (b .header .ranksFit) (b .header .cellsFit) fits,
       )
 

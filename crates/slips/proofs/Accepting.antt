@@ -1,53 +1,27 @@
 -- What the replay's answer tells of the definition's acceptance, and so of the slip.
 use Prim.Native.Nat.{ℕ}
-use mathlib.Core.Path.{_≡_, refl, sym, ap, ap₂, fun-ext, _∙_}
+use mathlib.Core.Path.{_≡_, sym, ap, ap₂, _∙_}
 use mathlib.Core.List.{List}
-use native.Mathlib.Omega.{arith}
-use lib.ListN.{length}
 use Rattle.model.specs.declared.Filled.the-variants as Filled
 use Rattle.model.specs.declared.Header.{Header}
 use Rattle.model.specs.declared.Refusal.{Refusal}
 use Rattle.model.specs.Refusals as Refusals
-use Rattle.model.specs.Refusals.{Result, ok, refused}
-use Rattle.model.specs.Machine.{zeroStart}
+use Rattle.model.specs.Refusals.{Result, ok}
 use Rattle.model.specs.Checks.{Accepted, accept}
 use Rattle.model.specs.Slips.{Lent, lend, slipOf, writeSlip}
 use Rattle.memory.specs.Tables.{cellsSize, zeros}
 use Rattle.memory.specs.Copies.{startIn}
-use Rattle.memory.proofs.Stores.{zeros-number}
+use Rattle.memory.proofs.Stores.{zero-start}
 use Rattle.replay.specs.declared.Acceptance as Acceptance
 use Rattle.replay.specs.declared.Acceptance.{Acceptance}
-use Rattle.replay.specs.Trails.{trailOf}
 use Rattle.replay.specs.Handed as Handed
 use Rattle.replay.specs.Handed.{HandsOver}
+use Rattle.replay.proofs.Accepting.{accept-refused, accept-found}
 use Rattle.slips.specs.Answers.{answering}
 use Rattle.slips.specs.Tallies.{ranksTold, tallied}
 use Rattle.slips.specs.Writing.{slipFrom}
 use Rattle.slips.proofs.Commands.{commands-tallied}
 use Rattle.slips.proofs.Writing.{slip-accepted}
-
--- "cells and registers start at 0"
-zero-start : startIn (zeros cellsSize) ≡ zeroStart
-unfolding zeroStart
-zero-start = fun-ext λ rank. fun-ext λ cell. zeros-number cellsSize rank cell
-
--- An accepted record, with what is known of it where the replay answers so.
-record Accepts (m : Result Accepted) (after : Handed.Lent) (items : ℕ) : Type 0 where
-  a : Accepted
-  is : m ≡ ok a
-  items-is : items ≡ length (a .run .events)
-  trail-is : after .trail ≡ trailOf (a .run .events)
-
-module _ {before after : Handed.Lent} {r : Acceptance} where
-  accept-refused : (m : Result Accepted) {x : Refusal} → HandsOver m before after r → r ≡ Acceptance.the-variants.Refused x → m ≡ refused x
-  accept-refused (ok a) h found = let z : _≡_ {A = ℕ} 0 1 = cc (h .answers) in absurd (omega arith)
-  accept-refused (refused y) {x} h found = let same : y ≡ x = cc (h .answers) in ap refused same
-
-  accept-found : (m : Result Accepted) {header : Header} {items groups : ℕ} → HandsOver m before after r →
-      r ≡ Acceptance.the-variants.Accepted header items groups → Accepts m after items
-  accept-found (ok a) h found =
-      record { a = a; is = refl; items-is = cc (h .answers); trail-is = ap (λ (l : Handed.Lent). l .trail) (h .leaves) }
-  accept-found (refused y) h found = let z : _≡_ {A = ℕ} 0 1 = cc (h .answers) in absurd (omega arith)
 
 module _ (program recorded : List ℕ) {before after : Handed.Lent} {r : Acceptance}
     (handed : HandsOver (accept (startIn (zeros cellsSize)) program recorded) before after r) (slip : List ℕ) where

@@ -2,12 +2,13 @@
 use graph::Edges;
 use graph::Groups;
 use graph::groups_in;
+use model::Answer;
 use placing::place;
 use rings::ring;
 ghost use mathlib.Core.Path.{_≡_};
 ghost use Rattle.model.specs.Orders as orders;
 ghost use Rattle.graph.specs.Edges.{groupsIn, graphIn};
-ghost use Rattle.verdicts.specs.Judged.{judgedAs};
+ghost use Rattle.verdicts.specs.Judged.{judgedAs, answerOf};
 
 // Whether the groups that are listed are a ring and not an order, how many they are, and the list.
 pub struct Judged {
@@ -38,4 +39,14 @@ pub fn verdict(groups: u16, edges: &Edges, count: usize) -> Judged
         count: placed_count,
         groups: order,
     }
+}
+
+// The answer that an order or a ring of so many groups is.
+pub fn answer_of(cyclic: bool, count: usize) -> Answer
+    ensures { λ r. ⌜ r ≡ answerOf cyclic count ⌝ }
+{
+    if cyclic {
+        return Answer::Ring(count);
+    }
+    Answer::Order(count)
 }

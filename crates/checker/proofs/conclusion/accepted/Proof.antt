@@ -34,7 +34,7 @@ unfolding acceptedWith
 returns-3 c =
     let atCells = c .before in
     let atOrder = atCells .before .before in
-    c .judge .ensures ∙ sym (when-true _ _ (le-leb _ _ (atOrder .if1 .left)) ∙ when-true _ _ (le-leb _ _ (atCells .if2 .left)))
+    c .verdict-on .ensures ∙ sym (when-true _ _ (le-leb _ _ (atOrder .if1 .left)) ∙ when-true _ _ (le-leb _ _ (atCells .if2 .left)))
 
 pub accepted-spec : {M : Type 1} → statement M
 accepted-spec =

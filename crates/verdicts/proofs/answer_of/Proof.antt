@@ -1,6 +1,6 @@
 -- `answer_of`: by the flag.
-use Rattle.layout.proofs.answer.answer_of.Statement.{statement}
-use Rattle.layout.proofs.answer.answer_of.Tie as tie
+use Rattle.verdicts.proofs.answer_of.Statement.{statement}
+use Rattle.verdicts.proofs.answer_of.Tie as tie
 
 returns : tie.Need-returns
 returns c = rw (c .if1 .taken)
