@@ -1,5 +1,5 @@
 -- Where a replay refuses, how far readers look and place their faults, and so the start of a file that is enough; then the longest listing: where a
--- refusal is placed, what values an accepted run holds, how long lines are, and the whole text.
+-- refusal is placed, what values an accepted run holds, how long lines are, and the whole text; and lists that are enough for every answer.
 pub mod Places
 pub mod Allowances
 pub mod Starts
@@ -8,3 +8,4 @@ pub mod Constants
 pub mod Values
 pub mod Lengths
 pub mod Listings
+pub mod Answers
