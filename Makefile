@@ -31,8 +31,13 @@ THREAD := -g -O1 -fsanitize=thread
 SEED ?= 1
 COUNT ?= 20000
 
-# What `test` runs after rt's own gate, in turn.
-PARTS := second harness definitions edits first recorder-test list_run-test
+# What `test` runs after rt's own gate, in two lanes beside each other: what asks the prover, and what does not.
+PROVER_PARTS := definitions edits
+OTHER_PARTS := second harness first recorder-test list_run-test
+
+# How many crates of one level, or edits, rt proves at a time. It waits for the last of them, so more than the machine has processors leave less of it
+# idle.
+export RT_JOBS ?= 4
 
 .PHONY: test sample bench second harness definitions edits first programs library install recorder recorder-test recorder-thread header
 .PHONY: list_run list_run-test
@@ -40,12 +45,17 @@ PARTS := second harness definitions edits first recorder-test list_run-test
 # Every proof and must-fail edit from nothing, then the tests, which stand on what was proved. Each part's seconds are printed, and the gate's
 # last line is the last line.
 test:
-	@set -e -o pipefail; log=$$(mktemp); trap 'rm -f $$log' EXIT; \
-	rt ci | tee $$log; seconds="rt ci $$SECONDS"; \
-	for part in $(PARTS); do \
-		begun=$$SECONDS; $(MAKE) --no-print-directory $$part; seconds+=", $$part $$((SECONDS - begun))"; \
-	done; \
-	echo "seconds: $$seconds"; tail -n 1 $$log
+	@set -e -o pipefail; room=$$(mktemp -d); trap 'rm -rf $$room' EXIT; \
+	lane() { \
+		for part in "$$@"; do \
+			begun=$$SECONDS; $(MAKE) --no-print-directory $$part; echo "$$part $$((SECONDS - begun))" >>$$room/seconds; \
+		done; \
+	}; \
+	rt ci | tee $$room/gate; echo "rt ci $$SECONDS" >$$room/seconds; \
+	lane $(PROVER_PARTS) >$$room/proofs 2>&1 & \
+	lane $(OTHER_PARTS); \
+	wait $$! || { cat $$room/proofs; exit 1; }; cat $$room/proofs; \
+	echo "seconds: $$(paste -sd, $$room/seconds | sed "s/,/, /g")"; tail -n 1 $$room/gate
 
 # The second program's harness and the writer of theorems; cargo builds what has changed.
 programs:
