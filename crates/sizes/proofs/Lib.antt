@@ -1,5 +1,6 @@
 -- Where a replay refuses, how far readers look and place their faults, and so the start of a file that is enough; then the longest listing: where a
--- refusal is placed, what values an accepted run holds, how long lines are, and the whole text; and lists that are enough for every answer.
+-- refusal is placed, what values an accepted run holds, how long lines are, and the whole text; and lists
+-- and slip memory that are enough for every answer.
 pub mod Places
 pub mod Allowances
 pub mod Starts
@@ -9,3 +10,4 @@ pub mod Values
 pub mod Lengths
 pub mod Listings
 pub mod Answers
+pub mod Slips
