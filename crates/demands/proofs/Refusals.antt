@@ -1,125 +1,53 @@
--- Every refusal has a number of document 01's table, of the rows that the check has. A rule for each way in which readers and results are put
--- together: what is refused by the whole is refused by a part.
+-- Every refusal has a number of document 01's table, of the rows that the check has: what is refused by the whole is refused by a part.
 use Prim.Native.Nat.{ℕ, zero, suc, _+_, _*_}
-use mathlib.Core.Path.{_≡_, refl, sym}
-use mathlib.Core.Bool.{Bool, true, false, _&&_}
+use mathlib.Core.Path.{_≡_, refl}
+use mathlib.Core.Bool.{Bool, true, _&&_}
 use mathlib.Core.List.{List, [], _∷_}
 use mathlib.Core.Option.{Option, some, none}
 use lib.Dec.{ltb, leb, eqb}
 use lib.ListN.{length, getElem?}
-use Rattle.model.specs.declared.Given.the-variants.{Absent}
 use Rattle.model.specs.declared.Header.{Header}
 use Rattle.model.specs.declared.Item.{Item}
-use Rattle.model.specs.declared.Refusal.{Refusal}
+use Rattle.model.specs.declared.ItemForm.{ItemForm}
+use Rattle.model.specs.declared.ItemForm.the-variants.{Good, UnknownKind, WrongMap}
 use Rattle.model.specs.Limits.{maxTokens, maxItems}
-use Rattle.model.specs.Refusals as Refusals
-use Rattle.model.specs.Refusals.{Result, ok, refused, refuse, require}
 use Rattle.model.specs.Refusals.{programLength, programRange, programForm, recordLength, recordRange, recordForm, wrongTransition, operandRange}
 use Rattle.model.specs.Refusals.{assumeFails, emptyQueue, accessDiffers, barrierRow, queuesLeft, orderTooShort, memoryTooShort}
-use Rattle.model.specs.Choice.{between, bit, lookup, member}
-use Rattle.model.specs.Bytes.{Reader, _>>=_, pure, here, fault, byte, word, judged, optional, times, whole}
+use Rattle.model.specs.Choice.{between, bit, lookup}
+use Rattle.model.specs.Bytes.{Reader, byte, judged}
 use Rattle.model.specs.ItemKinds.{sameKind, Part, command, fetch, delivery, partOf}
 use Rattle.model.specs.Expressions.{Expression, constant, Token, constantToken, registerToken, ownRankToken, rankCountToken, operatorToken, tokens}
 use Rattle.model.specs.Expressions.{Counted, noTokenLeft, afterToken, onToken, readExpression, expression}
 use Rattle.model.specs.Programs.{Program, Transition, Command, load, store, assign, assume, read, write, bar, kindOf, CommandForm, forms, judgedForm}
 use Rattle.model.specs.Programs.{headerNumber, readHeader, readFields, readTransition, programReader, readProgram}
-use Rattle.model.specs.Records.{ItemForm, itemForms, judgedItemForm, field, givenValue, readItem, recordReader, readRecord}
+use Rattle.model.specs.ItemForms.{itemForm, judgedItemForm}
+use Rattle.model.specs.Records.{readItem, recordReader, readRecord}
 use Rattle.model.specs.Machine.{Start, Request, Delivery, valueOf, operand, cellOperand, transfer, action}
 use Rattle.model.specs.Replay.{Origin, Replay, Taken, rowAllows, agreesWith, agreed, takeTransition, takeFetch, takeDelivery, takePart, takeItem}
 use Rattle.model.specs.Replay.{afterCommand, afterFetch, afterDelivery, oldest, takeItems, begin, quiet, atEnd, replay}
 use Rattle.model.specs.Checks.{accept, checkResult}
-use Rattle.model.proofs.Laws.{decided, refused≢ok}
-use Rattle.model.proofs.Bytes.{word-is}
+use Rattle.model.proofs.Laws.{decided}
+use Rattle.model.proofs.Faults.{Tabled, ok-tabled, refuse-tabled, bind-tabled, require-tabled, whole-tabled}
+use Rattle.model.proofs.Faults.{Faults, pure-faults, here-faults, fault-faults, bind-faults, byte-faults, word-faults, judged-faults}
+use Rattle.model.proofs.Faults.{optional-faults, times-faults}
+use Rattle.model.proofs.Records.{item-fields-fault}
 
 -- A number of one of the check's rows.
-abbrev Row : ℕ → Type 0
-Row number = between programLength memoryTooShort number ≡ true
-
--- What this result refuses, it refuses by such a number.
-pub record Tabled {A : Type 0} (m : Result A) : Type 0 where
-  pub row : (r : Refusal) → m ≡ refused r → Row (r .number)
-
-ok-tabled : {A : Type 0} (a : A) → Tabled (ok a)
-ok-tabled a = record { row = λ r h. absurd (refused≢ok (sym h)) }
-
-refuse-tabled : {A : Type 0} (number place : ℕ) → Row number → Tabled {A = A} (refuse number place)
-refuse-tabled number place row = record { row = λ r h. let same : number ≡ r .number = cc in rw same at row }
-
-bind-tabled : {A B : Type 0} {m : Result A} {f : A → Result B} → Tabled m → ((a : A) → Tabled (f a)) → Tabled (Refusals._>>=_ m f)
-bind-tabled {m = ok a} first then = then a
-bind-tabled {m = refused r} first then = record { row = λ s h. let same : r ≡ s = cc in rw same at (first .row r refl) }
-
-require-tabled : (t : Bool) (number place : ℕ) → Row number → Tabled (require t number place)
-require-tabled true number place row = ok-tabled tt
-require-tabled false number place row = refuse-tabled number place row
-
--- What this reader refuses, whatever the bytes are and wherever it starts.
-record Faults {A : Type 0} (read : Reader A) : Type 0 where
-  tabled : (bytes : List ℕ) (at : ℕ) → Tabled (read bytes at)
-
-pure-faults : {A : Type 0} (a : A) → Faults (pure a)
-pure-faults a = record { tabled = λ bytes at. ok-tabled _ }
-
-here-faults : Faults here
-here-faults = record { tabled = λ bytes at. ok-tabled _ }
-
-fault-faults : {A : Type 0} (number place : ℕ) → Row number → Faults {A = A} (fault number place)
-fault-faults number place row = record { tabled = λ bytes at. refuse-tabled number place row }
-
-bind-faults : {A B : Type 0} {read : Reader A} {rest : A → Reader B} → Faults read → ((a : A) → Faults (rest a)) → Faults (read >>= rest)
-bind-faults first then =
-    record { tabled = λ bytes at. bind-tabled (first .tabled bytes at) (λ f. then (f .value) .tabled bytes (f .next)) }
-
-byte-faults : (early : ℕ) → Row early → Faults (byte early)
-unfolding byte
-byte-faults early row =
-    record {
-      tabled =
-          λ bytes at.
-          decided (ltb at (length bytes)) (λ t. rw t (ok-tabled _)) (λ t. rw t (refuse-tabled early (length bytes) row));
-    }
-
-word-faults : (early : ℕ) → Row early → Faults (word early)
-word-faults early row =
-    rw (word-is early) (bind-faults (byte-faults early row) λ high. bind-faults (byte-faults early row) λ low. pure-faults _)
-
-judged-faults : (test : ℕ → Bool) (number : ℕ) {read : Reader ℕ} → Row number → Faults read → Faults (judged test number read)
-unfolding judged
-judged-faults test number row faults =
-    record {
-      tabled =
-          λ bytes at.
-          bind-tabled (faults .tabled bytes at)
-          (λ f. decided (test (f .value)) (λ t. rw t (ok-tabled f)) (λ t. rw t (refuse-tabled number at row)));
-    }
-
-optional-faults : {A : Type 0} (present : Bool) (absent : A) {read : Reader A} → Faults read → Faults (optional present absent read)
-optional-faults true absent faults = faults
-optional-faults false absent faults = pure-faults absent
-
-times-faults : {A : Type 0} (n : ℕ) {read : Reader A} → Faults read → Faults (times n read)
-unfolding times
-times-faults zero faults = pure-faults []
-times-faults (suc n) faults = bind-faults faults λ a. bind-faults (times-faults n faults) λ rest. pure-faults (a ∷ rest)
-
-whole-tabled : {A : Type 0} (left : ℕ) {read : Reader A} (bytes : List ℕ) → Row left → Faults read → Tabled (whole left read bytes)
-unfolding whole
-whole-tabled left bytes row faults =
-    bind-tabled (faults .tabled bytes 0)
-    (λ f. decided (eqb (f .next) (length bytes)) (λ t. rw t (ok-tabled _)) (λ t. rw t (refuse-tabled left (f .next) row)))
+abbrev pub CheckRow : ℕ → Type 0
+CheckRow number = between programLength memoryTooShort number ≡ true
 
 -- The program.
 module _ (registers : ℕ) where
-  register-faults : Faults (judged (λ i. ltb i registers) programRange (byte programLength))
+  register-faults : Faults CheckRow (judged (λ i. ltb i registers) programRange (byte programLength))
   register-faults = judged-faults (λ i. ltb i registers) programRange refl (byte-faults programLength refl)
 
-  no-token-faults : {A : Type 0} → Faults (noTokenLeft {A = A})
+  no-token-faults : {A : Type 0} → Faults CheckRow (noTokenLeft {A = A})
   unfolding noTokenLeft
   no-token-faults =
       bind-faults here-faults λ at. bind-faults (byte-faults programLength refl) λ token. fault-faults programForm at refl
 
-  token-faults : {operand : ℕ → Reader Counted} → ((left : ℕ) → Faults (operand left)) → (left at : ℕ) (token : Option Token) →
-      Faults (onToken registers operand left at token)
+  token-faults : {operand : ℕ → Reader Counted} → ((left : ℕ) → Faults CheckRow (operand left)) → (left at : ℕ) (token : Option Token) →
+      Faults CheckRow (onToken registers operand left at token)
   unfolding onToken afterToken
   token-faults operands left at (some constantToken) = bind-faults (word-faults programLength refl) λ value. pure-faults _
   token-faults operands left at (some registerToken) = bind-faults register-faults λ index. pure-faults _
@@ -129,7 +57,7 @@ module _ (registers : ℕ) where
       bind-faults (operands left) λ a. bind-faults (operands (a .left)) λ b. pure-faults _
   token-faults operands left at none = fault-faults programForm at refl
 
-  tokens-fault : (depth left : ℕ) → Faults (readExpression registers depth left)
+  tokens-fault : (depth left : ℕ) → Faults CheckRow (readExpression registers depth left)
   unfolding readExpression
   tokens-fault zero left = no-token-faults
   tokens-fault (suc depth) zero = no-token-faults
@@ -138,11 +66,11 @@ module _ (registers : ℕ) where
       bind-faults (byte-faults programLength refl) λ token.
       token-faults (tokens-fault depth) left at (lookup token tokens)
 
-  expression-faults : Faults (expression registers)
+  expression-faults : Faults CheckRow (expression registers)
   unfolding expression
   expression-faults = bind-faults (tokens-fault maxTokens maxTokens) λ e. pure-faults _
 
-  fields-fault : (map : ℕ) → Faults (readFields registers map)
+  fields-fault : (map : ℕ) → Faults CheckRow (readFields registers map)
   unfolding readFields
   fields-fault map =
       bind-faults (optional-faults (bit 0 map) 0 register-faults) λ x.
@@ -152,16 +80,16 @@ module _ (registers : ℕ) where
       bind-faults (optional-faults (bit 4 map) (constant 0) expression-faults) λ e4.
       pure-faults _
 
-form-faults : (at map : ℕ) (form : Option CommandForm) → Faults (judgedForm at map form)
+form-faults : (at map : ℕ) (form : Option CommandForm) → Faults CheckRow (judgedForm at map form)
 unfolding judgedForm
 form-faults at map none = fault-faults programForm (at + 1) refl
 form-faults at map (some form) =
     decided (eqb map (form .map)) (λ t. rw t (pure-faults form)) (λ t. rw t (fault-faults programForm at refl))
 
-below-faults : (limit : ℕ) → Faults (judged (λ q. ltb q limit) programRange (byte programLength))
+below-faults : (limit : ℕ) → Faults CheckRow (judged (λ q. ltb q limit) programRange (byte programLength))
 below-faults limit = judged-faults (λ q. ltb q limit) programRange refl (byte-faults programLength refl)
 
-transition-faults : (header : Header) → Faults (readTransition header)
+transition-faults : (header : Header) → Faults CheckRow (readTransition header)
 unfolding readTransition
 transition-faults header =
     bind-faults here-faults λ at.
@@ -173,11 +101,11 @@ transition-faults header =
     bind-faults (fields-fault (header .registers) map) λ fields.
     pure-faults _
 
-number-faults : (low high : ℕ) → Faults (headerNumber low high)
+number-faults : (low high : ℕ) → Faults CheckRow (headerNumber low high)
 unfolding headerNumber
 number-faults low high = judged-faults (between low high) programRange refl (byte-faults programLength refl)
 
-header-faults : Faults readHeader
+header-faults : Faults CheckRow readHeader
 unfolding readHeader
 header-faults =
     bind-faults (number-faults _ _) λ ranks.
@@ -188,7 +116,7 @@ header-faults =
     bind-faults (number-faults _ _) λ transitions.
     pure-faults _
 
-program-tabled : (bytes : List ℕ) → Tabled (readProgram bytes)
+program-tabled : (bytes : List ℕ) → Tabled CheckRow (readProgram bytes)
 unfolding readProgram programReader
 program-tabled bytes =
     whole-tabled programLength bytes refl
@@ -197,37 +125,22 @@ program-tabled bytes =
     pure-faults _)
 
 -- The record.
-field-faults : (test : ℕ → Bool) → Faults (field test)
-unfolding field
-field-faults test = judged-faults test recordRange refl (byte-faults recordLength refl)
-
-given-faults : Faults givenValue
-unfolding givenValue
-given-faults = bind-faults (word-faults recordLength refl) λ value. pure-faults _
-
-item-form-faults : (at map : ℕ) (form : Option ItemForm) → Faults (judgedItemForm at map form)
+item-form-faults : (at : ℕ) (form : ItemForm) → Faults CheckRow (judgedItemForm at form)
 unfolding judgedItemForm
-item-form-faults at map none = fault-faults recordForm (at + 1) refl
-item-form-faults at map (some form) =
-    decided (member map (form .maps)) (λ t. rw t (pure-faults (form .kind))) (λ t. rw t (fault-faults recordForm at refl))
+item-form-faults at (Good kind) = pure-faults kind
+item-form-faults at UnknownKind = fault-faults recordForm (at + 1) refl
+item-form-faults at WrongMap = fault-faults recordForm at refl
 
-item-faults : (header : Header) → Faults (readItem header)
+item-faults : (header : Header) → Faults CheckRow (readItem header)
 unfolding readItem
 item-faults header =
     bind-faults here-faults λ at.
     bind-faults (byte-faults recordLength refl) λ map.
     bind-faults (byte-faults recordLength refl) λ number.
-    bind-faults (item-form-faults at map (lookup number itemForms)) λ kind.
-    bind-faults (optional-faults (bit 0 map) 0 (field-faults (between 1 (header .ranks)))) λ rank.
-    bind-faults (optional-faults (bit 1 map) 0 (field-faults (λ t. ltb t (header .transitions)))) λ transition.
-    bind-faults (optional-faults (bit 2 map) 0 (field-faults (λ q. ltb q (header .queues)))) λ queue.
-    bind-faults (optional-faults (bit 3 map) 0 (field-faults (between 1 (header .ranks)))) λ place-rank.
-    bind-faults
-    (optional-faults (bit 4 map) 0 (judged-faults (λ a. ltb a (header .cells)) recordRange refl (word-faults recordLength refl))) λ place-cell.
-    bind-faults (optional-faults (bit 5 map) Absent given-faults) λ given.
-    pure-faults _
+    bind-faults (item-form-faults at (itemForm map number)) λ kind.
+    item-fields-fault refl refl header map kind
 
-record-tabled : (header : Header) (bytes : List ℕ) → Tabled (readRecord header bytes)
+record-tabled : (header : Header) (bytes : List ℕ) → Tabled CheckRow (readRecord header bytes)
 unfolding readRecord recordReader
 record-tabled header bytes =
     whole-tabled recordLength bytes refl
@@ -237,15 +150,15 @@ record-tabled header bytes =
 -- The replay.
 module _ (P : Program) where
   module _ (rank : ℕ) (registers : ℕ → ℕ) (at : ℕ) where
-    operand-tabled : (test : ℕ → Bool) (e : Expression) → Tabled (operand P rank registers at test e)
+    operand-tabled : (test : ℕ → Bool) (e : Expression) → Tabled CheckRow (operand P rank registers at test e)
     unfolding operand
     operand-tabled test e = bind-tabled (require-tabled (test (valueOf P rank registers e)) operandRange at refl) λ _. ok-tabled _
 
-    cell-tabled : (e : Expression) → Tabled (cellOperand P rank registers at e)
+    cell-tabled : (e : Expression) → Tabled CheckRow (cellOperand P rank registers at e)
     unfolding cellOperand
     cell-tabled e = operand-tabled (λ a. ltb a (P .header .cells)) e
 
-    transfer-tabled : (e1 e2 e3 e4 : Expression) → Tabled (transfer P rank registers at e1 e2 e3 e4)
+    transfer-tabled : (e1 e2 e3 e4 : Expression) → Tabled CheckRow (transfer P rank registers at e1 e2 e3 e4)
     unfolding transfer
     transfer-tabled e1 e2 e3 e4 =
         bind-tabled (cell-tabled e1) λ own.
@@ -254,7 +167,7 @@ module _ (P : Program) where
         bind-tabled (operand-tabled (λ q. ltb q (P .header .queues)) e4) λ queue.
         ok-tabled _
 
-    action-tabled : (c : Command) → Tabled (action P rank registers at c)
+    action-tabled : (c : Command) → Tabled CheckRow (action P rank registers at c)
     unfolding action
     action-tabled (load x e1) = bind-tabled (cell-tabled e1) λ cell. ok-tabled _
     action-tabled (store e1 e2) = bind-tabled (cell-tabled e1) λ cell. ok-tabled _
@@ -264,14 +177,14 @@ module _ (P : Program) where
     action-tabled (write e1 e2 e3 e4) = bind-tabled (transfer-tabled e1 e2 e3 e4) λ t. ok-tabled _
     action-tabled bar = ok-tabled _
 
-  agreed-tabled : (at : ℕ) (taken : Taken) → Tabled (agreed at taken)
+  agreed-tabled : (at : ℕ) (taken : Taken) → Tabled CheckRow (agreed at taken)
   unfolding agreed
   agreed-tabled at taken =
       let agrees : Bool = agreesWith (taken .event .item) (taken .event .access) in
       bind-tabled (require-tabled agrees accessDiffers at refl) λ _. ok-tabled taken
 
   module _ (s : Replay) (at : ℕ) (i : Item) where
-    transition-tabled : (t : Option Transition) → Tabled (takeTransition P s at i t)
+    transition-tabled : (t : Option Transition) → Tabled CheckRow (takeTransition P s at i t)
     unfolding takeTransition
     transition-tabled none = refuse-tabled wrongTransition at refl
     transition-tabled (some t) =
@@ -280,33 +193,33 @@ module _ (P : Program) where
         bind-tabled (action-tabled (i .rank) (s .machine .registers (i .rank)) at (t .command)) λ a.
         agreed-tabled at (afterCommand P s i (t .target) a)
 
-    fetch-tabled : (o : Option (Request Origin × List (Request Origin))) → Tabled (takeFetch s at i o)
+    fetch-tabled : (o : Option (Request Origin × List (Request Origin))) → Tabled CheckRow (takeFetch s at i o)
     unfolding takeFetch
     fetch-tabled none = refuse-tabled emptyQueue at refl
     fetch-tabled (some (a, rest)) = agreed-tabled at (afterFetch s i a rest)
 
-    delivery-tabled : (o : Option (Delivery Origin × List (Delivery Origin))) → Tabled (takeDelivery s at i o)
+    delivery-tabled : (o : Option (Delivery Origin × List (Delivery Origin))) → Tabled CheckRow (takeDelivery s at i o)
     unfolding takeDelivery
     delivery-tabled none = refuse-tabled emptyQueue at refl
     delivery-tabled (some (b, rest)) = agreed-tabled at (afterDelivery s i b rest)
 
-    part-tabled : (p : Part) → Tabled (takePart P s at i p)
+    part-tabled : (p : Part) → Tabled CheckRow (takePart P s at i p)
     unfolding takePart
     part-tabled command = transition-tabled (getElem? (P .transitions) (i .transition))
     part-tabled fetch = fetch-tabled (oldest (s .machine .requests (i .rank) (i .queue)))
     part-tabled delivery = delivery-tabled (oldest (s .machine .deliveries (i .rank) (i .queue)))
 
-    item-tabled : Tabled (takeItem P s at i)
+    item-tabled : Tabled CheckRow (takeItem P s at i)
     unfolding takeItem
     item-tabled = bind-tabled (require-tabled (rowAllows (s .row) i) barrierRow at refl) λ _. part-tabled (partOf (i .kind))
 
-  items-tabled : (s : Replay) (at : ℕ) (items : List Item) → Tabled (takeItems P s at items)
+  items-tabled : (s : Replay) (at : ℕ) (items : List Item) → Tabled CheckRow (takeItems P s at items)
   unfolding takeItems
   items-tabled s at [] = ok-tabled _
   items-tabled s at (i ∷ items) =
       bind-tabled (item-tabled s at i) λ taken. bind-tabled (items-tabled (taken .state) (at + 1) items) λ rest. ok-tabled _
 
-  replay-tabled : (start : Start) (items : List Item) → Tabled (replay P start items)
+  replay-tabled : (start : Start) (items : List Item) → Tabled CheckRow (replay P start items)
   unfolding replay atEnd
   replay-tabled start items =
       bind-tabled (items-tabled (begin start) 0 items) λ r.
@@ -316,7 +229,7 @@ module _ (P : Program) where
 
 -- The whole check.
 pub check-tabled : (start : Start) (program recorded : List ℕ) (orderLength cellsLength : ℕ) →
-    Tabled (checkResult start program recorded orderLength cellsLength)
+    Tabled CheckRow (checkResult start program recorded orderLength cellsLength)
 unfolding checkResult accept
 check-tabled start program recorded orderLength cellsLength =
     bind-tabled

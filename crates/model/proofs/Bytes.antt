@@ -7,7 +7,7 @@ use mathlib.Core.List.{List, [], _∷_}
 use native.Mathlib.Omega.{arith}
 use lib.Dec.{ltb, eqb}
 use lib.ListN.{length, getD}
-use borrow.Author.Tests.{eqb-true}
+use borrow.Author.Tests.{eqb-true, lt-ltb}
 use Rattle.model.specs.Limits.{byteValues, wordValues}
 use Rattle.model.specs.Refusals as Refusals
 use Rattle.model.specs.Refusals.{ok}
@@ -20,6 +20,10 @@ module _ (early : ℕ) (bytes : List ℕ) (at : ℕ) where
   pub byte-ok : {f : Found ℕ} → byte early bytes at ≡ ok f → record { value = getD bytes at 0; next = at + 1 } ≡ f
   unfolding byte
   byte-ok h = decided (ltb at (length bytes)) (λ t. ok-injective (rw t at h)) (λ t. absurd (refused≢ok (rw t at h)))
+
+  pub byte-there : at < length bytes → byte early bytes at ≡ found (getD bytes at 0) (at + 1)
+  unfolding byte
+  byte-there h = rw (lt-ltb at (length bytes) h)
 
   pub byte-next : {f : Found ℕ} → byte early bytes at ≡ ok f → f .next ≡ at + 1
   byte-next h = ap (λ (f : Found ℕ). f .next) (sym (byte-ok h))

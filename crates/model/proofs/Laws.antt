@@ -10,7 +10,7 @@ use native.Mathlib.Omega.{arith}
 use lib.Dec.{eqb, leb}
 use lib.ListN.{length, getElem?}
 use borrow.Author.Tests.{eq-eqb, ne-eqb, eqb-true, leb-true, le-leb}
-use Rattle.model.specs.Refusals.{Result, ok, refused, require, _>>=_}
+use Rattle.model.specs.Refusals.{Result, ok, refused, refuse, require, _>>=_}
 use Rattle.model.specs.Choice.{when, between}
 use Rattle.model.specs.Machine.{put, put₂}
 
@@ -25,6 +25,15 @@ refused≢ok h = subst IsOk (sym h) tt
 
 pub ok-injective : {A : Type 0} {a b : A} → ok a ≡ ok b → a ≡ b
 ok-injective h = cc
+
+-- Two refusals that are one have one place.
+placeOf : {A : Type 0} → Result A → ℕ
+placeOf (ok a) = 0
+placeOf (refused r) = r .place
+
+pub same-place : {A : Type 0} {number other place place′ : ℕ} → refuse {A = A} number place ≡ refuse other place′ → place ≡ place′
+unfolding placeOf
+same-place h = ap placeOf h
 
 -- A result that is a value came from values all the way.
 pub bind-ok : {A B : Type 0} (m : Result A) (f : A → Result B) {b : B} → (m >>= f) ≡ ok b → (a : A) × (m ≡ ok a) × (f a ≡ ok b)

@@ -3,6 +3,10 @@ pub mod Laws
 pub mod Selections
 pub mod ItemKinds
 pub mod Bytes
+pub mod Faults
+pub mod Tables
+pub mod ItemForms
+pub mod Records
 pub mod Ranges
 pub mod Actions
 pub mod Replay

@@ -6,6 +6,7 @@ pub mod Bytes
 pub mod ItemKinds
 pub mod Expressions
 pub mod Programs
+pub mod ItemForms
 pub mod Records
 pub mod Machine
 pub mod Rules

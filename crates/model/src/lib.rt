@@ -89,6 +89,13 @@ pub enum Kind {
     Bar,
 }
 
+// What an item's map byte and kind byte say together: the kind, or which of the two is to blame.
+pub enum ItemForm {
+    Good(Kind),
+    UnknownKind,
+    WrongMap,
+}
+
 // A cell of the global address space: the rank that holds it, and its number there.
 pub struct Address {
     pub rank: u16,

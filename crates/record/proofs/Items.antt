@@ -6,60 +6,59 @@ use mathlib.Core.List.{List}
 use Rattle.model.specs.declared.Given.the-variants.{Absent}
 use Rattle.model.specs.declared.Header.{Header}
 use Rattle.model.specs.declared.Item.{Item}
+use Rattle.model.specs.declared.ItemForm.{ItemForm}
+use Rattle.model.specs.declared.ItemForm.the-variants.{Good, UnknownKind, WrongMap}
 use Rattle.model.specs.declared.Kind.{Kind}
 use Rattle.model.specs.declared.Refusal.{Refusal}
 use Rattle.model.specs.Refusals.{Result, ok, refused, recordLength, recordForm}
-use Rattle.model.specs.Choice.{bit, lookup}
+use Rattle.model.specs.Choice.{bit}
 use Rattle.model.specs.Bytes.{Found, Reader, found, pure, byte, word, optional}
-use Rattle.model.specs.Records.{itemForms, judgedItemForm, field, givenValue, readItem}
+use Rattle.model.specs.ItemForms.{itemForm, judgedItemForm}
+use Rattle.model.specs.Records.{field, givenValue, itemFields, readItem}
 use Rattle.model.proofs.Laws.{bind-assoc, told}
 use Rattle.model.proofs.Bytes.{byte-next}
 use Rattle.fields.specs.declared.Field as Field
 use Rattle.fields.specs.declared.Field.{Field}
 use Rattle.fields.specs.Fields.{fieldOf, _>>=_}
 use Rattle.fields.proofs.Fields.{field-told, field-goes-on}
-use Rattle.record.specs.declared.form.Form.{Form}
-use Rattle.record.specs.declared.form.Form.the-variants.{Known, UnknownKind, WrongMap}
 use Rattle.record.specs.declared.item.ItemRead as ItemRead
 use Rattle.record.specs.declared.item.ItemRead.{ItemRead}
-use Rattle.record.specs.Forms.{itemForm}
 use Rattle.record.specs.Optional.{rankField, numberField, cellField, valueField}
 use Rattle.record.specs.Items.{bare, given, withGiven, itemRead, readActor, readQueue, readPlace, readGiven}
-use Rattle.record.proofs.Forms.{judgedForm, judged-is}
 
 -- What follows map and kind, which stand at `at`.
 abbrev judgedItem : Header → (at map kind : ℕ) → Reader Item
-judgedItem header at map kind = judgedItemForm at map (lookup kind itemForms) >>= (λ k. readActor header map (bare k))
+judgedItem header at map kind = judgedItemForm at (itemForm map kind) >>= (λ k. readActor header map (bare k))
 
 pub readItem-is : (header : Header) (bytes : List ℕ) (at : ℕ) →
     readItem header bytes at ≡ (byte recordLength >>= (λ map. byte recordLength >>= judgedItem header at map)) bytes at
-unfolding readItem field _>>=_ rankField numberField cellField readActor readQueue readPlace readGiven
+unfolding readItem itemFields field _>>=_ rankField numberField cellField readActor readQueue readPlace readGiven
 readItem-is header bytes at = refl
 
 -- Behind map and kind the verdict on both decides.
 module _ (header : Header) (bytes : List ℕ) (at : ℕ) {first second : Field} {map kindAt kind next : ℕ}
     (p : first ≡ fieldOf (byte recordLength bytes at)) (q : first ≡ Field.the-variants.Read map kindAt)
     (p₂ : second ≡ fieldOf (byte recordLength bytes kindAt)) (q₂ : second ≡ Field.the-variants.Read kind next)
-    {form : Form} (f : form ≡ itemForm map kind) where
-  by-form : {verdict : Form} {answer : ItemRead} → form ≡ verdict →
-      answer ≡ itemRead ((judgedForm at verdict >>= (λ k. readActor header map (bare k))) bytes next) →
+    {form : ItemForm} (f : form ≡ itemForm map kind) where
+  by-form : {verdict : ItemForm} {answer : ItemRead} → form ≡ verdict →
+      answer ≡ itemRead ((judgedItemForm at verdict >>= (λ k. readActor header map (bare k))) bytes next) →
       answer ≡ itemRead (readItem header bytes at)
   by-form v d =
       rw readItem-is
-      (field-goes-on itemRead _ _ _ _ p q (field-goes-on itemRead _ _ _ _ p₂ q₂ (rw (judged-is at map kind, ← f, v) d)))
+      (field-goes-on itemRead _ _ _ _ p q (field-goes-on itemRead _ _ _ _ p₂ q₂ (rw (← f, v) d)))
 
-  pub form-known : {k : Kind} {answer : ItemRead} → form ≡ Known k → answer ≡ itemRead (readActor header map (bare k) bytes next) →
+  pub form-good : {k : Kind} {answer : ItemRead} → form ≡ Good k → answer ≡ itemRead (readActor header map (bare k) bytes next) →
       answer ≡ itemRead (readItem header bytes at)
-  unfolding _>>=_
-  form-known v d = by-form v d
+  unfolding _>>=_ judgedItemForm
+  form-good v d = by-form v d
 
   pub kind-unknown : form ≡ UnknownKind →
       ItemRead.the-variants.Refused (record { number = recordForm; place = kindAt }) ≡ itemRead (readItem header bytes at)
-  unfolding _>>=_
+  unfolding _>>=_ judgedItemForm
   kind-unknown v = rw (byte-next recordLength bytes at (field-told (byte recordLength bytes at) p q)) (by-form v refl)
 
   pub map-wrong : form ≡ WrongMap → ItemRead.the-variants.Refused (record { number = recordForm; place = at }) ≡ itemRead (readItem header bytes at)
-  unfolding _>>=_
+  unfolding _>>=_ judgedItemForm
   map-wrong v = by-form v refl
 
 -- A value is a word where its bit stands.

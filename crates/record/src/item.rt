@@ -1,7 +1,5 @@
 // One item at a place: map and kind, then the fields whose bit stands, in bit order. Each function reads one or two fields into the item and hands it
 // on, so that an item is read once, front to back, and its first fault is the answer.
-use crate::form::Form;
-use crate::form::item_form;
 use crate::optional::read_cell;
 use crate::optional::read_number;
 use crate::optional::read_rank;
@@ -9,10 +7,12 @@ use crate::optional::read_value;
 use fields::Field;
 use fields::bit;
 use fields::read_byte;
+use item_forms::item_form;
 use model::Address;
 use model::Given;
 use model::Header;
 use model::Item;
+use model::ItemForm;
 use model::Kind;
 use model::Refusal;
 use model::refusals::RECORD_FORM;
@@ -40,12 +40,12 @@ pub fn read_item(bytes: &[u8], at: usize, header: Header) -> ItemRead
         return ItemRead::Refused(second.refusal());
     };
     match item_form(map, kind_byte) {
-        Form::Known(kind) => read_actor(bytes, next, header, map, bare(kind)),
-        Form::UnknownKind => ItemRead::Refused(Refusal {
+        ItemForm::Good(kind) => read_actor(bytes, next, header, map, bare(kind)),
+        ItemForm::UnknownKind => ItemRead::Refused(Refusal {
             number: RECORD_FORM,
             place: kind_at,
         }),
-        Form::WrongMap => ItemRead::Refused(Refusal {
+        ItemForm::WrongMap => ItemRead::Refused(Refusal {
             number: RECORD_FORM,
             place: at,
         }),

@@ -2,19 +2,17 @@
 -- them is enough for the reader that comes next: an account with a rule for each way in which readers are put together.
 use Prim.Native.Nat.{ℕ, zero, suc, _+_, _*_, _<_, _≤_}
 use mathlib.Core.Path.{_≡_, refl, sym, ap, subst, _∙_}
-use mathlib.Core.Bool.{Bool, true, false, false≢true}
+use mathlib.Core.Bool.{Bool, true, false}
 use mathlib.Core.List.{List, [], _∷_}
-use mathlib.Core.Option.{Option, some, none}
 use native.Mathlib.Omega.{arith}
 use lib.Dec.{ltb, leb, eqb}
 use lib.ListN.{length, take}
 use lib.Seq.{length-take-le, take-all, getD-take}
-use borrow.Author.Tests.{lt-ltb, ltb-false, ne-eqb, eqb-true, leb-true, leb-false}
+use borrow.Author.Tests.{lt-ltb, ltb-false, ne-eqb, leb-true, leb-false}
 use Rattle.model.specs.Refusals as Refusals
 use Rattle.model.specs.Refusals.{ok, refuse}
-use Rattle.model.specs.Choice.{when, lookup, member}
+use Rattle.model.specs.Choice.{when}
 use Rattle.model.specs.Bytes.{Found, Reader, _>>=_, pure, here, fault, byte, word, judged, optional, times, whole}
-use Rattle.model.specs.Traces.{Each, all, one}
 use Rattle.model.proofs.Laws.{refused≢ok, ok-injective, bind-ok, bind-cong, when-false, decided}
 use Rattle.model.proofs.Bytes.{byte-next, word-is, judged-ok}
 use Rattle.sizes.proofs.Places.{Placed, placed-ok, placed-refuse, placed-bind, placed-later}
@@ -160,20 +158,6 @@ takes-times (suc n) each takes =
     takes-bind {between = λ _. n * each} (takes-less (takes-over (n * each) takes) (omega arith) (λ a. omega arith)) λ a.
     takes-bind (takes-times n each takes) λ rest.
     takes-pure (a ∷ rest) (omega arith)
-
--- What holds of every row of a table, and of none, holds of what the table has under a number; and what holds of all of a list, of one of them.
-pub lookup-holds : {A : Type 0} (Holds : Option A → Type 0) (n : ℕ) (rows : List (ℕ × A)) → Holds none → Each (λ row. Holds (some (row .1))) rows →
-    Holds (lookup n rows)
-unfolding lookup
-lookup-holds Holds n [] missing all = missing
-lookup-holds Holds n (row ∷ rows) missing (one holds rest) =
-    decided (eqb n (row .0)) (λ t. rw t holds) (λ t. rw t (lookup-holds Holds n rows missing rest))
-
-pub one-of : {Holds : ℕ → Type 0} (n : ℕ) (xs : List ℕ) → Each Holds xs → member n xs ≡ true → Holds n
-unfolding member
-one-of n [] e h = absurd (false≢true h)
-one-of {Holds} n (x ∷ xs) (one p e) h =
-    decided (eqb n x) (λ t. rw (eqb-true n x t) p) (λ t. one-of n xs e (rw t at h))
 
 -- Of bytes that are to be read whole, one more than is allowed is enough: it is left over already, and a refusal is placed there at the latest.
 module _ {A : Type 0} (left allowed : ℕ) {read : Reader A} (takes : Takes 0 allowed (λ _. 0) read) (bytes : List ℕ) where

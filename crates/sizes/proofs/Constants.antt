@@ -21,7 +21,7 @@ use Rattle.model.specs.Programs.{readHeader, readFields, readTransition, progra
 use Rattle.model.specs.Traces.{Each, all, one}
 use Rattle.model.proofs.Laws.{decided, refused≢ok}
 use Rattle.model.proofs.Bytes.{Finds, finds-anything, finds-pure, finds-bind, finds-times, finds-word, whole-finds}
-use Rattle.sizes.proofs.Allowances.{lookup-holds}
+use Rattle.model.proofs.Tables.{lookup-holds}
 
 -- An expression whose constants fit.
 unfoldable pub ConstantsFit : Expression → Type 0

@@ -14,20 +14,26 @@ use lib.ListN.{take}
 use borrow.Author.Tests.{eqb-true, leb-true}
 use Rattle.model.specs.declared.Given.the-variants.{Absent}
 use Rattle.model.specs.declared.Header.{Header}
+use Rattle.model.specs.declared.ItemForm.{ItemForm}
+use Rattle.model.specs.declared.Kind.{Kind}
 use Rattle.model.specs.Limits.{maxTokens, maxTransitions, maxItems}
 use Rattle.model.specs.Refusals.{programLength, programRange, programForm, recordLength, recordRange, recordForm}
-use Rattle.model.specs.Choice.{between, bit, lookup, member}
+use Rattle.model.specs.Choice.{between, bit, lookup}
 use Rattle.model.specs.Bytes.{Reader, byte, word, judged}
 use Rattle.model.specs.Expressions.{Token, constantToken, registerToken, ownRankToken, rankCountToken, operatorToken, tokens, Counted, constant, noTokenLeft, onToken, afterToken, readExpression, expression}
 use Rattle.model.specs.Programs.{readFields, CommandForm, forms, judgedForm, readTransition, headerNumber, readHeader, programReader, readProgram}
-use Rattle.model.specs.Records.{ItemForm, itemForms, judgedItemForm, field, givenValue, readItem, recordReader, readRecord}
-use Rattle.model.specs.Traces.{Each, all, one}
+use Rattle.model.specs.ItemForms.{HasMap, FormIs, good, unknown-kind, wrong-map, itemKinds, itemMaps, judgedItemForm}
+use Rattle.model.specs.Records.{field, givenValue, itemFields, readItem, recordReader, readRecord}
+use Rattle.model.specs.Traces.{all, one}
 use Rattle.model.specs.Machine.{Start, zeroStart}
+use Rattle.model.specs.Replay.{every}
 use Rattle.model.specs.Checks.{accept}
 use Rattle.model.specs.Listings.{listing, printedOf}
 use Rattle.model.proofs.Laws.{decided, bind-cong, between-true}
+use Rattle.model.proofs.Tables.{lookup-holds, everyRow}
+use Rattle.model.proofs.ItemForms.{form-is, each-map}
 use Rattle.sizes.specs.Sizes.{maxProgramBytes, maxRecordBytes}
-use Rattle.sizes.proofs.Allowances.{Takes, takes-less, takes-over, takes-pure, takes-here, takes-fault, takes-bind, takes-byte, takes-word, takes-judged, takes-tested, cost, takes-optional, takes-times, lookup-holds, one-of, whole-of-start}
+use Rattle.sizes.proofs.Allowances.{Takes, takes-less, takes-over, takes-pure, takes-here, takes-fault, takes-bind, takes-byte, takes-word, takes-judged, takes-tested, cost, takes-optional, takes-times, whole-of-start}
 
 -- The program.
 below-takes : (limit left : ℕ) {from allowed : ℕ} → left + 1 ≤ allowed →
@@ -173,43 +179,23 @@ itemCost map =
     0 + cost (bit 5 map) 2 + cost (bit 4 map) 2 + cost (bit 3 map) 1 + cost (bit 2 map) 1 + cost (bit 1 map) 1 + cost (bit 0 map) 1
 
 -- A right map has a transition or a queue, and not both.
-module _ (at map : ℕ) where
-  abbrev ItemTakes : Option ItemForm → Type 0
-  ItemTakes form = Takes at 7 (λ _. itemCost map) (judgedItemForm at map form)
+map-cost : {kind : Kind} {map : ℕ} → HasMap kind map → leb (itemCost map) 7 ≡ true
+unfolding everyRow every itemKinds itemMaps
+map-cost has = each-map (λ kind map. leb (itemCost map) 7) refl has
 
-  item-form-takes : (form : ItemForm) → Each (λ right. leb (itemCost right) 7 ≡ true) (form .maps) → ItemTakes (some form)
-  unfolding judgedItemForm
-  item-form-takes form within =
-      decided (member map (form .maps))
-      (λ t. rw t (takes-pure (form .kind) (leb-true (itemCost map) 7 (one-of map (form .maps) within t))))
-      (λ t. rw t (takes-fault recordForm at (omega arith)))
-
-  item-forms-take : (kind : ℕ) → ItemTakes (lookup kind itemForms)
-  unfolding itemForms judgedItemForm
-  item-forms-take kind =
-      lookup-holds ItemTakes kind itemForms (takes-fault recordForm (at + 1) (omega arith))
-      (one (item-form-takes _ (one refl (one refl all)))
-      (one (item-form-takes _ (one refl (one refl all)))
-      (one (item-form-takes _ (one refl all))
-      (one (item-form-takes _ (one refl all))
-      (one (item-form-takes _ (one refl all))
-      (one (item-form-takes _ (one refl all))
-      (one (item-form-takes _ (one refl (one refl all)))
-      (one (item-form-takes _ (one refl (one refl all)))
-      (one (item-form-takes _ (one refl all))
-      all)))))))))
+verdict-takes : (at : ℕ) {map number : ℕ} {form : ItemForm} → FormIs map number form → Takes at 7 (λ _. itemCost map) (judgedItemForm at form)
+unfolding judgedItemForm
+verdict-takes at {map} (good kind same has) = takes-pure kind (leb-true (itemCost map) 7 (map-cost has))
+verdict-takes at (unknown-kind no-kind) = takes-fault recordForm (at + 1) (omega arith)
+verdict-takes at (wrong-map kind same has-not) = takes-fault recordForm at (omega arith)
 
 cell-takes : (cells left : ℕ) {from allowed : ℕ} → left + 2 ≤ allowed →
     Takes from allowed (λ _. left) (judged (λ a. ltb a cells) recordRange (word recordLength))
 cell-takes cells left enough = takes-tested (λ a. ltb a cells) recordRange (takes-word recordLength left enough)
 
-item-takes : (header : Header) {from : ℕ} → Takes from 9 (λ _. 0) (readItem header)
-unfolding readItem
-item-takes header =
-    takes-here λ at.
-    takes-bind (takes-byte recordLength 8 (omega arith)) λ map.
-    takes-bind (takes-byte recordLength 7 (omega arith)) λ number.
-    takes-bind (item-forms-take at map number) λ kind.
+item-fields-take : (header : Header) (map : ℕ) (kind : Kind) {from : ℕ} → Takes from (itemCost map) (λ _. 0) (itemFields header map kind)
+unfolding itemFields
+item-fields-take header map kind =
     takes-bind (takes-optional (bit 0 map) 0 1 (field-takes (between 1 (header .ranks)) _ (omega arith))) λ rank.
     takes-bind (takes-optional (bit 1 map) 0 1 (field-takes (λ t. ltb t (header .transitions)) _ (omega arith))) λ transition.
     takes-bind (takes-optional (bit 2 map) 0 1 (field-takes (λ q. ltb q (header .queues)) _ (omega arith))) λ queue.
@@ -217,6 +203,15 @@ item-takes header =
     takes-bind (takes-optional (bit 4 map) 0 2 (cell-takes (header .cells) _ (omega arith))) λ place-cell.
     takes-bind (takes-optional (bit 5 map) Absent 2 (given-takes _ (omega arith))) λ given.
     takes-pure _ (omega arith)
+
+item-takes : (header : Header) {from : ℕ} → Takes from 9 (λ _. 0) (readItem header)
+unfolding readItem
+item-takes header =
+    takes-here λ at.
+    takes-bind (takes-byte recordLength 8 (omega arith)) λ map.
+    takes-bind (takes-byte recordLength 7 (omega arith)) λ number.
+    takes-bind (verdict-takes at (form-is map number)) λ kind.
+    item-fields-take header map kind
 
 pub record-takes : (header : Header) → Takes 0 maxRecordBytes (λ _. 0) (recordReader header)
 unfolding recordReader

@@ -2,7 +2,7 @@
 use borrow.Author.Needs.{needs}
 use Rattle.fields.proofs.Fields.{field-stops, field-goes-on}
 use Rattle.record.specs.Items.{itemRead}
-use Rattle.record.proofs.Items.{readItem-is, form-known, kind-unknown, map-wrong}
+use Rattle.record.proofs.Items.{readItem-is, form-good, kind-unknown, map-wrong}
 use Rattle.record.proofs.item.read_item.Statement.{statement}
 use Rattle.record.proofs.item.read_item.Tie as tie
 
@@ -19,14 +19,14 @@ no-kind c =
     (field-goes-on itemRead _ _ _ _ (atFirst .before .before .read-byte .ensures) (atFirst .first .given .1)
     (field-stops itemRead _ _ _ _ (atKind .read-byte2 .ensures) (c .before .enum-told2 .given .1) (c .refusal2 .ensures)))
 
-known : tie.Need-returns-3
-known c =
+good : tie.Need-returns-3
+good c =
     let atVerdict = c .before .before .before in
     let atForm = atVerdict .before .before in
     let atSecond = atForm .before .before in
     let atKind = atSecond .before .before in
     let atFirst = atKind .before .before in
-    form-known _ _ _ (atFirst .before .before .read-byte .ensures) (atFirst .first .given .1)
+    form-good _ _ _ (atFirst .before .before .read-byte .ensures) (atFirst .first .given .1)
     (atKind .read-byte2 .ensures) (atSecond .second .given .1) (atForm .item-form .ensures)
     (atVerdict .kind .given .1) (rw (c .before .bare .ensures) at (c .read-actor .ensures))
 
@@ -68,6 +68,6 @@ read-item-spec =
     (λ c κs. search needs)
     (λ c. search needs)
     (λ c. search needs)
-    known
+    good
     unknown
     wrong)

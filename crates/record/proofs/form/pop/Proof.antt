@@ -1,7 +1,0 @@
--- `pop`: the maps of its arm are those of the row. Assumes nothing.
-use Rattle.record.proofs.Forms.{listed, unlisted}
-use Rattle.record.proofs.form.pop.Statement.{statement}
-use Rattle.record.proofs.form.pop.Tie as tie
-
-pub pop-spec : {M : Type 1} → statement M
-pop-spec = tie.close (tie.spec (λ c. listed _ _ (c .match .keys1)) (λ c. unlisted _ _ (c .match .rest .1)))
