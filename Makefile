@@ -7,6 +7,7 @@ VECTORS := tests/vectors
 PROGRAMS := target/second/release
 HARNESS := $(PROGRAMS)/harness
 FIRST := target/first/release/harness
+FORMS := target/forms.txt
 DEFINITIONS := target/definitions
 LIBRARY := target/staticlib/liblellmusu.a
 HEADER := include/lellmusu.h
@@ -85,10 +86,12 @@ edits:
 $(LIBRARY) $(LISTING_LIBRARY): target/staticlib/lib%.a: crates.txt $(shell find crates -type f -not -path '*/must-fail/*')
 	rt staticlib $*
 
-# The harness with the library's check in place of the second program's: the corpus, generated inputs, and small records judged by searching all
-# plain runs.
-first: $(LIBRARY)
+# The harness with the library's check in place of the second program's: the corpus, generated inputs, small records judged by searching all plain
+# runs, and the verdict on every pair of map and kind, against the table that the second program writes.
+first: $(LIBRARY) programs
 	cd tests/second && cargo build --release --quiet --features first --target-dir ../../target/first
+	$(HARNESS) write-forms $(FORMS)
+	$(FIRST) forms $(FORMS)
 	$(FIRST) corpus $(VECTORS)
 	$(FIRST) generated $(SEED) $(COUNT)
 	$(FIRST) judged $(SEED)

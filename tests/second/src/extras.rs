@@ -166,11 +166,11 @@ struct Called<'a> {
 }
 
 /// How the slip writer is called in what is printed.
-const SLIP_WRITER: &str = "slip writer";
+pub const SLIP_WRITER: &str = "slip writer";
 /// How the slip reader is called in what is printed.
 const SLIP_READER: &str = "slip reader";
 /// How the listing is called in what is printed.
-const LISTING: &str = "listing";
+pub const LISTING: &str = "listing";
 
 impl Called<'_> {
     /// Counts what the subject told if it is right, and else says what differs. Memory is printed
@@ -250,47 +250,68 @@ fn refusal_of(case: &CheckCase) -> Option<Refusal> {
     }
 }
 
-/// Compares a slip writer with the slip or refusal of a case.
+/// Compares a slip writer with a case, with memory of many lengths.
 fn compare_slip_writer(
     subject: &Extras,
     case: &CheckCase,
     tally: &mut Tally,
 ) -> Result<(), String> {
-    let slip = case.slip.as_deref().unwrap_or_default();
-    for entries in lengths(slip.len()) {
-        let right = match refusal_of(case) {
-            Some(refusal) => right(refusal.into(), &[], entries),
-            None => fitted(DONE, slip, entries),
-        };
-        let called = Called {
-            function: SLIP_WRITER,
-            input: &|| input_of(case),
-            entries,
-        };
-        let seen = (subject.write_slip)(&case.program, &case.record, entries);
-        called.agree(seen, right, to_hex, tally)?;
+    let needed = case.slip.as_ref().map_or(0, Vec::len);
+    for entries in lengths(needed) {
+        compare_slip(subject, case, entries, tally)?;
     }
     Ok(())
 }
 
-/// Compares a listing with the text of a case.
+/// Compares a slip writer with the slip or refusal of a case, with so many bytes.
+pub fn compare_slip(
+    subject: &Extras,
+    case: &CheckCase,
+    entries: usize,
+    tally: &mut Tally,
+) -> Result<(), String> {
+    let slip = case.slip.as_deref().unwrap_or_default();
+    let right = match refusal_of(case) {
+        Some(refusal) => right(refusal.into(), &[], entries),
+        None => fitted(DONE, slip, entries),
+    };
+    let called = Called {
+        function: SLIP_WRITER,
+        input: &|| input_of(case),
+        entries,
+    };
+    let seen = (subject.write_slip)(&case.program, &case.record, entries);
+    called.agree(seen, right, to_hex, tally)
+}
+
+/// Compares a listing with a case, with memory of many lengths.
 fn compare_listing(subject: &Extras, case: &CheckCase, tally: &mut Tally) -> Result<(), String> {
+    for entries in lengths(case.listing.len()) {
+        compare_text(subject, case, entries, tally)?;
+    }
+    Ok(())
+}
+
+/// Compares a listing with the text of a case, with so many bytes.
+pub fn compare_text(
+    subject: &Extras,
+    case: &CheckCase,
+    entries: usize,
+    tally: &mut Tally,
+) -> Result<(), String> {
     let number = match refusal_of(case) {
         Some(refusal) => refusal.number,
         None if case.listing.starts_with("ring ") => RING,
         None => DONE,
     };
-    for entries in lengths(case.listing.len()) {
-        let right = fitted(number, case.listing.as_bytes(), entries);
-        let called = Called {
-            function: LISTING,
-            input: &|| input_of(case),
-            entries,
-        };
-        let seen = (subject.list)(&case.program, &case.record, entries);
-        called.agree(seen, right, escaped, tally)?;
-    }
-    Ok(())
+    let right = fitted(number, case.listing.as_bytes(), entries);
+    let called = Called {
+        function: LISTING,
+        input: &|| input_of(case),
+        entries,
+    };
+    let seen = (subject.list)(&case.program, &case.record, entries);
+    called.agree(seen, right, escaped, tally)
 }
 
 /// Whether the library can be asked: it takes N as one byte.

@@ -147,8 +147,17 @@ fn agree(subject: Observer, input: &Input, right: Observed) -> Result<Answer, Bo
 
 /// Compares a subject with the answer a corpus case holds, with even and with odd list lengths.
 pub fn compare_case(subject: Observer, case: &CheckCase) -> Result<Answer, Box<Disagreement>> {
-    agree(subject, &input_of(case, 1), observed_of(case, 1))?;
-    agree(subject, &input_of(case, 0), observed_of(case, 0))
+    compare_odd(subject, case, 1)?;
+    compare_odd(subject, case, 0)
+}
+
+/// Compares a subject with a case, with so many odd bytes at the end of each list.
+pub fn compare_odd(
+    subject: Observer,
+    case: &CheckCase,
+    odd: usize,
+) -> Result<Answer, Box<Disagreement>> {
+    agree(subject, &input_of(case, odd), observed_of(case, odd))
 }
 
 /// The input of a corpus case, with so many odd bytes at the end of each list.

@@ -12,6 +12,7 @@ pub mod corpus_reader;
 pub mod expression;
 pub mod extras;
 pub mod families;
+pub mod forms;
 pub mod generator;
 pub mod groups;
 pub mod harness;

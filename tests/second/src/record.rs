@@ -103,12 +103,13 @@ impl Item {
     }
 }
 
-/// The two maps of a kind: without a value and with one; the same where no value can be given.
+/// The two maps of a kind: without a value and with one; the same where no value can be given. The
+/// table in `forms` says the same in a text of its own and is not made from this one.
 pub fn maps(kind: Kind) -> [u8; 2] {
     match kind {
         Kind::Load | Kind::Store => [27, 59],
+        Kind::Assign | Kind::Assume | Kind::Read | Kind::Write | Kind::Bar => [3, 3],
         Kind::PopA | Kind::PopB => [29, 61],
-        _ => [3, 3],
     }
 }
 

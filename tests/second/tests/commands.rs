@@ -45,6 +45,8 @@ fn bad_arguments_end_with_status_2() {
     assert_bad_input(&["judged"], "usage");
     assert_bad_input(&["judged", "one"], "SEED `one`");
     assert_bad_input(&["judged", "1", "2.5"], "COUNT `2.5`");
+    assert_bad_input(&["forms"], "usage");
+    assert_bad_input(&["write-forms"], "usage");
     assert_bad_input(&["--guards"], "usage");
     assert_bad_input(&["--guards", "show", "x"], "usage");
     assert_bad_input(&["write-corpus", "x", "y"], "SEED `y`");
@@ -148,6 +150,60 @@ fn answers_on_small_records_are_judged() {
             "{text}"
         );
     }
+}
+
+/// The file of a fresh table, and its text.
+fn table_in(name: &str) -> (String, String) {
+    let file = fresh(name).join("table").to_string_lossy().into_owned();
+    let output = harness(&["write-forms", &file]);
+    assert_eq!(output.status.code(), Some(0));
+    let text = fs::read_to_string(&file).expect("the table is there");
+    (file, text)
+}
+
+#[test]
+fn the_subject_is_held_to_a_written_table() {
+    let (file, _) = table_in("table");
+    for option in [&[][..], &["--guards"]] {
+        let output = harness(&[option, &["forms", &file]].concat());
+        let text = String::from_utf8_lossy(&output.stdout);
+        assert_eq!(output.status.code(), Some(0), "{text}");
+        assert!(text.starts_with("forms: all pairs agree ("), "{text}");
+        let counts = "good 13  unknown-kind 63232  wrong-map 2291\n";
+        assert_eq!(text.matches(counts).count(), 3, "{text}");
+    }
+}
+
+#[test]
+fn a_verdict_that_is_not_the_tables_ends_with_status_1() {
+    let (file, table) = table_in("other-table");
+    let changed = table.replace("kind 9 map 59 wrong-map", "kind 9 map 59 good");
+    fs::write(&file, changed).expect("a file can be written");
+    let output = harness(&["forms", &file]);
+    let text = String::from_utf8_lossy(&output.stdout);
+    assert_eq!(output.status.code(), Some(1), "{text}");
+    let begin = "kind 9 map 59: good in the table, wrong-map by the check\nprogram 02030202";
+    assert!(text.starts_with(begin), "{text}");
+    assert!(text.contains("\nrecord 00013b09\n"), "{text}");
+}
+
+#[test]
+fn damaged_tables_end_with_status_2() {
+    let (file, table) = table_in("damaged-table");
+    let line = "kind 0 map 9 unknown-kind\n";
+    for other in ["", "kind 0 map 9 maybe\n", "kind 9 map 0 unknown-kind\n"] {
+        fs::write(&file, table.replace(line, other)).expect("a file can be written");
+        assert_bad_input(&["forms", &file], "table: line 10: `kind 0 map 9`");
+    }
+    fs::write(&file, format!("{table}{line}")).expect("a file can be written");
+    assert_bad_input(&["forms", &file], "table: line 65537");
+    fs::write(&file, [0xff, 0xfe]).expect("a file can be written");
+    assert_bad_input(&["forms", &file], "table: ");
+    assert_bad_input(&["forms", &format!("{file}/absent")], "table/absent: ");
+    assert_bad_input(
+        &["write-forms", &format!("{file}/absent")],
+        "table/absent: ",
+    );
 }
 
 #[test]

@@ -10,6 +10,8 @@ use second::extras::{
     askable, compare_all_ranks, compare_extras, compare_slip_reader, Extras, Tally,
 };
 use second::families;
+use second::forms::hold::{hold, Readers};
+use second::forms::table::Table;
 use second::generator::slips::{slip_input, SlipInput};
 use second::generator::{input, small_input, Input};
 use second::harness::{between_guards, compare, compare_case, Histogram};
@@ -191,13 +193,34 @@ pub fn judged(tested: &Tested, seed: u64, count: u64) -> Done {
     ))
 }
 
+/// Holds the subject's check, slip writer and listing to a table of verdicts.
+pub fn forms(tested: &Tested, file: &str) -> Done {
+    let table = Table::read(Path::new(file)).map_err(Failure::Input)?;
+    let readers = Readers {
+        check: &tested.observe,
+        extras: &tested.extras,
+    };
+    let shown = hold(&table, &readers).map_err(Failure::Disagreement)?;
+    Ok(format!("forms: all pairs agree ({})\n{shown}", tested.name))
+}
+
+/// Writes document 01's table of verdicts.
+pub fn write_forms(file: &str) -> Done {
+    let text = Table::of_document_01().to_string();
+    written(Path::new(file), &text)?;
+    Ok(format!("{file}: {} bytes\n", text.len()))
+}
+
+/// Writes a file.
+fn written(path: &Path, text: &str) -> Result<(), Failure> {
+    fs::write(path, text).map_err(|error| Failure::Input(format!("{}: {error}", path.display())))
+}
+
 /// Makes the corpus files.
 pub fn write_corpus(directory: &str, seed: u64) -> Done {
     let mut report = String::new();
     for file in families::files(seed).map_err(Failure::Disagreement)? {
-        let path = Path::new(directory).join(file.name);
-        fs::write(&path, &file.text)
-            .map_err(|error| Failure::Input(format!("{}: {error}", path.display())))?;
+        written(&Path::new(directory).join(file.name), &file.text)?;
         let _ = writeln!(report, "{}: {} bytes", file.name, file.text.len());
     }
     Ok(report)

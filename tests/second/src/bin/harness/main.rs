@@ -18,8 +18,10 @@ const USAGE: &str = "usage:
   harness corpus DIR              compare the subject with every case of the corpus
   harness generated SEED COUNT    compare the subject with the second program on generated inputs
   harness judged SEED [COUNT]     judge the subject's answers on small records by exhaustive search
-  harness --guards ...            one of these three; the first program, if it is linked, is lent
+  harness forms FILE              hold the subject to a table of verdicts on map and kind
+  harness --guards ...            one of these four; the first program, if it is linked, is lent
                                   its lists between guard bytes and not at the ends of pages
+  harness write-forms FILE        write document 01's table of verdicts on map and kind
   harness write-corpus DIR SEED   make the corpus files (all but the hand-written ones)
   harness show FILE [NAME]        print answer and listing of the cases of a corpus file
   harness listing DIR             print the listing of DIR/run.prg and DIR/run.rec";
@@ -27,7 +29,7 @@ const USAGE: &str = "usage:
 /// How a command ends when it does not succeed.
 #[derive(Debug)]
 pub enum Failure {
-    /// Bad arguments, unreadable files, malformed corpus files: exit status 2.
+    /// Bad arguments, unreadable files, malformed corpus files or tables: exit status 2.
     Input(String),
     /// A disagreement: exit status 1.
     Disagreement(String),
@@ -45,8 +47,9 @@ fn number(what: &str, text: &str) -> Result<u64, Failure> {
 /// Runs the command that the arguments name.
 fn run(arguments: &[&str]) -> Done {
     match arguments {
-        ["corpus" | "generated" | "judged", ..] => test(arguments, &Tested::usual()),
+        ["corpus" | "generated" | "judged" | "forms", ..] => test(arguments, &Tested::usual()),
         ["--guards", arguments @ ..] => test(arguments, &Tested::between_guards()),
+        ["write-forms", file] => commands::write_forms(file),
         ["write-corpus", directory, seed] => {
             commands::write_corpus(directory, number("SEED", seed)?)
         }
@@ -68,6 +71,7 @@ fn test(arguments: &[&str], tested: &Tested) -> Done {
         ["judged", seed, count] => {
             commands::judged(tested, number("SEED", seed)?, number("COUNT", count)?)
         }
+        ["forms", file] => commands::forms(tested, file),
         _ => Err(Failure::Input(USAGE.into())),
     }
 }
