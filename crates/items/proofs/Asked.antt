@@ -15,8 +15,8 @@ use Rattle.model.specs.Expressions.{Expression}
 use Rattle.model.specs.Programs.{Program, HeaderFits, Command, load, store, assign, assume, read, write, bar, kindOf}
 use Rattle.model.specs.Machine.{Action, Transfer, loads, stores, assigns, passes, issues, meets, operand, cellOperand, transfer, valueOf, action}
 use Rattle.model.proofs.Laws.{ok-injective, bind-ok, required, decided}
-use Rattle.program.specs.declared.transition.Operands.{Operands}
-use Rattle.program.specs.Transitions.{operandsOf, commandOf}
+use Rattle.transitions.specs.declared.transition.Operands.{Operands}
+use Rattle.transitions.specs.Transitions.{operandsOf, commandOf}
 use Rattle.items.specs.Operands.{kindIn, transferBy, actionBy}
 use Rattle.items.proofs.Registers.{RegisterHeld}
 

@@ -9,9 +9,9 @@ use Rattle.model.specs.Refusals.{Result, ok, refused, require, _>>=_, operandRa
 use Rattle.model.specs.Choice.{between}
 use Rattle.model.specs.Machine as Machine
 use Rattle.model.specs.Machine.{Transfer, address, loads, stores, assigns, passes, issues, meets}
-use Rattle.program.specs.declared.transition.Operands.{Operands}
-use Rattle.program.specs.declared.transition.Command.{Command}
-use Rattle.program.specs.declared.transition.Command.the-variants.{Load, Store, Assign, Assume, Read, Write, Bar}
+use Rattle.transitions.specs.declared.transition.Operands.{Operands}
+use Rattle.transitions.specs.declared.transition.Command.{Command}
+use Rattle.transitions.specs.declared.transition.Command.the-variants.{Load, Store, Assign, Assume, Read, Write, Bar}
 use Rattle.items.specs.declared.operands.Action as Action
 use Rattle.items.specs.declared.operands.Action.{Action}
 use Rattle.items.specs.declared.operands.Asked as Asked

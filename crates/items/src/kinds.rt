@@ -1,6 +1,6 @@
 // Kinds of items compared by document 01's numbers.
 use model::Kind;
-use program::transition::Command;
+use transitions::transition::Command;
 ghost use mathlib.Core.Path.{_≡_};
 ghost use Rattle.model.specs.ItemKinds.{kindNumber, sameKind};
 ghost use Rattle.items.specs.Operands.{kindIn};

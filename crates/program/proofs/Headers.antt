@@ -13,11 +13,11 @@ use Rattle.fields.specs.Fields.{fieldOf, judgedField}
 use Rattle.fields.proofs.Fields.{judged-read}
 use Rattle.program.specs.declared.header.HeaderRead as HeaderRead
 use Rattle.program.specs.declared.header.HeaderRead.{HeaderRead}
-use Rattle.program.specs.declared.pair.Pair.{Pair}
-use Rattle.program.specs.declared.pair.Pair.the-variants.{Read, Refused}
-use Rattle.program.specs.Pairs.{inTurn, numbersRead}
+use Rattle.transitions.specs.declared.pair.Pair.{Pair}
+use Rattle.transitions.specs.declared.pair.Pair.the-variants.{Read, Refused}
+use Rattle.transitions.specs.Pairs.{inTurn, numbersRead}
 use Rattle.program.specs.Starts.{headerRead}
-use Rattle.program.proofs.Pairs.{numbers-found, numbers-refused}
+use Rattle.transitions.proofs.Pairs.{numbers-found, numbers-refused}
 
 -- A byte that is read and then judged.
 pub number-read : (low high : ℕ) (bytes : List ℕ) (at : ℕ) {x y : Field} → x ≡ fieldOf (byte programLength bytes at) →

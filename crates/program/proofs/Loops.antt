@@ -18,12 +18,12 @@ use Rattle.model.specs.Programs as Programs
 use Rattle.model.specs.Programs.{readTransition}
 use Rattle.model.proofs.Bytes.{times-more, times-none}
 use Rattle.program.specs.declared.reader.ReadAnswer as ReadAnswer
-use Rattle.program.specs.declared.transition.Transition.{Transition}
-use Rattle.program.specs.declared.transition.TransitionRead as TransitionRead
-use Rattle.program.specs.declared.transition.TransitionRead.{TransitionRead}
+use Rattle.transitions.specs.declared.transition.Transition.{Transition}
+use Rattle.transitions.specs.declared.transition.TransitionRead as TransitionRead
+use Rattle.transitions.specs.declared.transition.TransitionRead.{TransitionRead}
 use Rattle.program.specs.Starts.{afterHeader, noStarts, padded, programRead, refusedProgram, startOf}
-use Rattle.program.specs.Transitions.{transitionRead}
-use Rattle.program.proofs.Transitions.{transition-read, transition-refused}
+use Rattle.transitions.specs.Transitions.{transitionRead}
+use Rattle.transitions.proofs.Transitions.{transition-read, transition-refused}
 
 -- What was passed stands before what is found after it.
 abbrev after : List ℕ → Result (Found (List ℕ)) → Result (Found (List ℕ))

@@ -1,4 +1,2 @@
--- What the readers answer, by the definitions of `model`: pairs of fields, transitions, programs.
-pub mod Pairs
-pub mod Transitions
+-- What the readers answer, by the definitions of `model`: headers and programs.
 pub mod Starts

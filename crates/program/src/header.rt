@@ -1,5 +1,4 @@
 // The header: "N, A, R, Q, S, T, one byte each".
-use crate::pair::Pair;
 use fields::Field;
 use fields::read_byte;
 use fields::within;
@@ -13,10 +12,11 @@ use model::STATES;
 use model::TRANSITIONS;
 use model::refusals::PROGRAM_LENGTH;
 use model::refusals::PROGRAM_RANGE;
+use transitions::pair::Pair;
 ghost use mathlib.Core.Path.{_≡_};
 ghost use Rattle.model.specs.Programs.{headerNumber, readHeader};
 ghost use Rattle.fields.specs.Fields.{fieldOf};
-ghost use Rattle.program.specs.Pairs.{inTurn, numbersRead};
+ghost use Rattle.transitions.specs.Pairs.{inTurn, numbersRead};
 ghost use Rattle.program.specs.Starts.{headerRead};
 
 // A header and the place after it, or the refusal.

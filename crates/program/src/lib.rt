@@ -1,7 +1,3 @@
-// Reading a program: its header, where each transition starts, and a transition with the values of its expressions in a rank. Every function equals
-// its definition in `model`, on every byte string.
+// Reading a program: its header, and where each transition starts. Every function equals its definition in `model`, on every byte string.
 pub mod header;
-mod pair;
 pub mod reader;
-pub mod transition;
-mod values;

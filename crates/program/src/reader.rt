@@ -1,14 +1,14 @@
 // The program reader: the header, where each transition starts, and nothing left over; or the first refusal, front to back.
 use crate::header::HeaderRead;
 use crate::header::read_header;
-use crate::transition::TransitionRead;
-use crate::transition::read_transition;
 use model::Header;
 use model::REGISTERS;
 use model::Refusal;
 use model::Starts;
 use model::TRANSITIONS;
 use model::refusals::PROGRAM_LENGTH;
+use transitions::transition::TransitionRead;
+use transitions::transition::read_transition;
 ghost use mathlib.Core.Path.{_≡_};
 ghost use Prim.Native.Nat.{_≤_};
 ghost use Rattle.model.specs.Limits.{maxTransitions};

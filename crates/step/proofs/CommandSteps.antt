@@ -14,7 +14,7 @@ use Rattle.model.specs.Programs.{Program, Transition, HeaderFits, kindOf, readT
 use Rattle.model.specs.Machine.{Action, action}
 use Rattle.model.specs.Replay.{Replay, groupOf, rowAfter, agreesWith, accessOf, originOf, afterCommand, agreed, takeTransition}
 use Rattle.memory.specs.Tables.{Rank, controlAt, registersSize, rowAt}
-use Rattle.program.specs.Transitions.{commandOf}
+use Rattle.transitions.specs.Transitions.{commandOf}
 use Rattle.items.specs.declared.rows.Progress.{Progress}
 use Rattle.items.specs.Accesses.{accessNumber, accessTold}
 use Rattle.step.specs.Arrays.{Memory, cellsIn}

@@ -15,7 +15,7 @@ use Rattle.model.specs.ItemKinds.{sameKind}
 use Rattle.model.specs.Refusals.{Result, ok, refused, wrongTransition, accessDiffers, barrierRow}
 use Rattle.model.specs.Replay.{rowAllows, groupOf, agreesWith, accessOf}
 use Rattle.memory.specs.Tables.{Table, cellsSize, stored, controlAt, controlStored}
-use Rattle.program.specs.declared.transition.Transition.{Transition}
+use Rattle.transitions.specs.declared.transition.Transition.{Transition}
 use Rattle.queues.specs.declared.Request.{Request}
 use Rattle.queues.specs.declared.Delivery.{Delivery}
 use Rattle.queues.specs.Lists.{Queues}

@@ -25,10 +25,10 @@ use Rattle.queues.specs.declared.Part.the-variants.{Requests, Deliveries}
 use Rattle.queues.specs.Entries.{requestAt, deliveryAt}
 use Rattle.queues.specs.Lists.{oldestIn}
 use Rattle.queues.specs.Transfers.{appended, fetched, delivered}
-use Rattle.program.specs.declared.transition.Transition.{Transition}
-use Rattle.program.specs.declared.transition.TransitionRead.{TransitionRead}
-use Rattle.program.specs.declared.transition.TransitionRead.the-variants.{Read, Refused}
-use Rattle.program.specs.Transitions.{transitionRead}
+use Rattle.transitions.specs.declared.transition.Transition.{Transition}
+use Rattle.transitions.specs.declared.transition.TransitionRead.{TransitionRead}
+use Rattle.transitions.specs.declared.transition.TransitionRead.the-variants.{Read, Refused}
+use Rattle.transitions.specs.Transitions.{transitionRead}
 use Rattle.items.specs.declared.rows.Progress.{Progress}
 use Rattle.step.specs.declared.item.Outcome as Outcome
 use Rattle.step.specs.declared.item.Outcome.{Outcome}

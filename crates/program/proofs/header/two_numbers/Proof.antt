@@ -1,6 +1,6 @@
 -- `two_numbers`: one header number after the other. Assumes nothing.
 use borrow.Author.Needs.{needs}
-use Rattle.program.proofs.Pairs.{first-stops, second-stops, both-read}
+use Rattle.transitions.proofs.Pairs.{first-stops, second-stops, both-read}
 use Rattle.program.proofs.header.two_numbers.Statement.{statement}
 use Rattle.program.proofs.header.two_numbers.Tie as tie
 
