@@ -27,8 +27,8 @@ use Rattle.queues.specs.Endings.{allEmpty}
 use Rattle.queues.proofs.Queued.{cleared, quiet-told}
 use Rattle.record.specs.Places.{firstItem}
 use Rattle.items.specs.declared.rows.Progress.{Progress}
-use Rattle.step.specs.Arrays.{Memory, memory}
-use Rattle.step.specs.Standing as Step
+use Rattle.machine.specs.Arrays.{Memory, memory}
+use Rattle.machine.specs.Standing as Step
 use Rattle.replay.specs.declared.Acceptance as Acceptance
 use Rattle.replay.specs.declared.run.Ran as Ran
 use Rattle.replay.specs.declared.run.Ran.{Ran}

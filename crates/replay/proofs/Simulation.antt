@@ -20,9 +20,11 @@ use Rattle.model.proofs.Ranges.{Ranged, item-finds}
 use Rattle.model.proofs.Replay.{ItemTaken, commands, fetches, delivers, item-taken}
 use Rattle.memory.specs.Tables.{Table, zeros}
 use Rattle.memory.proofs.Filled.{fill-more}
-use Rattle.step.specs.Steps.{Left, itemOn, memoryAfter, outcomeOf}
-use Rattle.step.specs.Standing as Step
-use Rattle.step.specs.Standing.{Agree, Loaded, ItemFits}
+use Rattle.machine.specs.Outcomes.{Left, memoryAfter, outcomeOf}
+use Rattle.step.specs.Steps.{itemOn}
+use Rattle.machine.specs.Standing as Step
+use Rattle.machine.specs.Standing.{Agree}
+use Rattle.step.specs.Standing.{Loaded, ItemFits}
 use Rattle.step.proofs.ItemSteps.{promised}
 use Rattle.items.specs.Accesses.{accessNumber}
 use Rattle.record.specs.Places.{ItemsFrom, ended, then}

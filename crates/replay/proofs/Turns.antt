@@ -11,11 +11,12 @@ use Rattle.model.specs.Bytes.{found}
 use Rattle.model.specs.Records.{readItem}
 use Rattle.model.proofs.Laws.{refused≢ok, ok-injective}
 use Rattle.memory.specs.Tables.{Table}
-use Rattle.step.specs.declared.item.Outcome as Outcome
-use Rattle.step.specs.declared.item.Outcome.{Outcome}
+use Rattle.machine.specs.declared.Outcome as Outcome
+use Rattle.machine.specs.declared.Outcome.{Outcome}
 use Rattle.items.specs.declared.rows.Progress.{Progress}
-use Rattle.step.specs.Arrays.{Memory}
-use Rattle.step.specs.Steps.{Left, Does, itemOn}
+use Rattle.machine.specs.Arrays.{Memory}
+use Rattle.machine.specs.Outcomes.{Left, Does}
+use Rattle.step.specs.Steps.{itemOn}
 use Rattle.replay.specs.declared.run.Ran as Ran
 use Rattle.replay.specs.Trails.{told}
 use Rattle.replay.specs.Items.{RunState, itemsOn, RunsAs}

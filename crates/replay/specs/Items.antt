@@ -7,7 +7,7 @@ use Rattle.model.specs.Refusals.{Result, ok, refused, _>>=_}
 use Rattle.model.specs.Records.{readItem}
 use Rattle.memory.specs.Tables.{Table}
 use Rattle.items.specs.declared.rows.Progress.{Progress}
-use Rattle.step.specs.Arrays.{Memory}
+use Rattle.machine.specs.Arrays.{Memory}
 use Rattle.step.specs.Steps.{itemOn}
 use Rattle.replay.specs.declared.run.Ran as Ran
 use Rattle.replay.specs.declared.run.Ran.{Ran}

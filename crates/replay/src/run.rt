@@ -1,6 +1,7 @@
 // The items of a record in turn, each read at its place and taken, and what the drawing of arrows needs of each.
 use items::kinds::same_kind;
 use items::rows::Progress;
+use machine::Outcome;
 use model::Cells;
 use model::Control;
 use model::Header;
@@ -16,11 +17,10 @@ use queues::Pool;
 use record::item::ItemRead;
 use record::item::read_item;
 use record::reader::FIRST_ITEM;
-use step::item::Outcome;
-use step::item::take_item;
+use step::take_item;
 ghost use mathlib.Core.Path.{_≡_};
 ghost use Rattle.record.specs.Places.{firstItem};
-ghost use Rattle.step.specs.Arrays.{memory};
+ghost use Rattle.machine.specs.Arrays.{memory};
 ghost use Rattle.replay.specs.Trails.{commandRank, told};
 ghost use Rattle.replay.specs.Items.{itemsOn, begun, RunsAs};
 

@@ -21,14 +21,16 @@ use Rattle.model.proofs.ItemKinds.{sameKind-true, command≢fetch, command≢de
 use Rattle.model.proofs.Laws.{decided}
 use Rattle.memory.specs.Tables.{Rank, Place}
 use Rattle.items.specs.declared.rows.Progress.{Progress}
-use Rattle.step.specs.declared.item.Outcome.{Outcome}
-use Rattle.step.specs.declared.item.Outcome.the-variants.{Taken, Refused}
-use Rattle.step.specs.Arrays.{Memory}
-use Rattle.step.specs.Standing.{ItemFits, Loaded, Standing, Steps}
-use Rattle.step.specs.Steps.{Left, Does, outcomeOf, memoryAfter, partOn, itemOn}
-use Rattle.step.proofs.Agreement.{Together, together-does, together-test}
-use Rattle.step.proofs.CommandSteps.{transition-together}
-use Rattle.step.proofs.PopSteps.{fetch-together, delivery-together}
+use Rattle.machine.specs.declared.Outcome.{Outcome}
+use Rattle.machine.specs.declared.Outcome.the-variants.{Taken, Refused}
+use Rattle.machine.specs.Arrays.{Memory}
+use Rattle.machine.specs.Standing.{Standing}
+use Rattle.machine.specs.Outcomes.{Left, Does, outcomeOf, memoryAfter}
+use Rattle.machine.proofs.Agreement.{Together, together-does, together-test}
+use Rattle.commands.proofs.CommandSteps.{transition-together}
+use Rattle.pops.proofs.PopSteps.{fetch-together, delivery-together}
+use Rattle.step.specs.Standing.{ItemFits, Loaded, Steps}
+use Rattle.step.specs.Steps.{partOn, itemOn}
 
 -- An item that is refused leaves the arrays as they were.
 not-taken : {next : Progress} {group access : ℕ} {r : Refusal} → ¬ (Taken next group access ≡ Refused r)

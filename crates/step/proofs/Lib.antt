@@ -1,8 +1,3 @@
--- The code against the step on arrays (`Outcomes`), and the step on arrays against the definition's, in the order of the argument.
+-- The code against the step on arrays (`Outcomes`), and the step on arrays against the definition's.
 pub mod Outcomes
-pub mod Performed
-pub mod OwnRegisters
-pub mod Agreement
-pub mod CommandSteps
-pub mod PopSteps
 pub mod ItemSteps

@@ -1,4 +1,3 @@
--- The step on the machine's arrays, and how the arrays stand for the definition's state.
-pub mod Arrays
+-- The step on arrays, and its promise.
 pub mod Steps
 pub mod Standing

@@ -1,30 +1,26 @@
--- How the machine's arrays stand for the definition's state, and the promise of the step.
-use Prim.Native.Nat.{ℕ, _+_, _≤_, _<_}
+-- How a program stands in its bytes, and the promise of the step.
+use Prim.Native.Nat.{ℕ, _≤_, _<_}
 use mathlib.Core.Path.{_≡_}
-use mathlib.Core.Bool.{true}
 use mathlib.Core.List.{List}
+use mathlib.Core.Bool.{true}
 use mathlib.Core.Option.{some}
 use lib.ListN.{getD, getElem?}
 use Rattle.model.specs.declared.Header.{Header}
 use Rattle.model.specs.declared.Item.{Item}
 use Rattle.model.specs.declared.Refusal.{Refusal}
-use Rattle.model.specs.Limits.{maxItems}
-use Rattle.model.specs.Refusals.{Result, ok, refused}
-use Rattle.model.specs.Bytes.{found}
-use Rattle.model.specs.Programs.{Program, Transition, HeaderFits, readTransition}
-use Rattle.model.specs.Machine.{State}
-use Rattle.model.specs.Replay.{Origin, Replay, Taken, takeItem}
+use Rattle.model.specs.Programs.{readTransition, Program, Transition, HeaderFits}
 use Rattle.model.specs.ItemKinds.{partOf, hasPlace}
+use Rattle.model.specs.Limits.{maxItems}
+use Rattle.model.specs.Bytes.{found}
+use Rattle.model.specs.Replay.{Replay, takeItem}
 use Rattle.model.specs.Traces.{ChosenIn}
-use Rattle.memory.specs.Tables.{registersSize, cellsSize}
-use Rattle.memory.specs.Tied.{Controls, Whole, Below}
-use Rattle.queues.specs.Queued.{Queued}
 use Rattle.items.specs.declared.rows.Progress.{Progress}
-use Rattle.step.specs.declared.item.Outcome as Outcome
-use Rattle.step.specs.declared.item.Outcome.{Outcome}
-use Rattle.items.specs.Accesses.{accessNumber}
-use Rattle.step.specs.Arrays.{Memory}
-use Rattle.step.specs.Steps.{Does, itemOn}
+use Rattle.machine.specs.declared.Outcome as Outcome
+use Rattle.machine.specs.declared.Outcome.{Outcome}
+use Rattle.machine.specs.Arrays.{Memory}
+use Rattle.machine.specs.Outcomes.{Does}
+use Rattle.machine.specs.Standing.{Standing, Agree}
+use Rattle.step.specs.Steps.{itemOn}
 
 -- A transition of a program, which stands in the bytes at its start.
 pub record Stands (bytes starts : List ℕ) (header : Header) (P : Program) (number : ℕ) : Type 0 where
@@ -47,34 +43,6 @@ pub record Loaded (bytes starts : List ℕ) (header : Header) (P : Program) : Ty
   pub same : P .header ≡ header
   pub fits : HeaderFits header
   pub stands : (number : ℕ) → number < header .transitions → Stands bytes starts header P number
-
--- The arrays hold the machine's state after at most so many items.
-pub record Holds (most : ℕ) (m : Memory) (s : State Origin) : Type 0 where
-  pub controls : Controls (m .control) (s .control)
-  pub registers : Whole registersSize (m .registers) (s .registers)
-  pub cells : Below cellsSize (m .cells) (s .cells)
-  pub queues : Queued most (m .queues) (s .requests) (s .deliveries)
-
--- The arrays and the progress stand for a state of the replay.
-pub record Standing (m : Memory) (p : Progress) (s : Replay) : Type 0 where
-  pub holds : Holds (p .at) m (s .machine)
-  pub opened : s .opened ≡ p .opened
-  pub row : s .row ≡ p .row
-  pub few : p .opened ≤ p .at
-
--- An item that the definition and the code take alike.
-pub record Follows (at : ℕ) (t : Taken) (after : Memory) (next : Progress) (group access : ℕ) : Type 0 where
-  pub standing : Standing after next (t .state)
-  pub counted : next .at ≡ at + 1
-  pub sameGroup : t .event .group ≡ group
-  pub sameAccess : accessNumber (t .event .access) ≡ access
-
--- Both take the item alike, or both refuse it alike.
-abbrev pub Agree : (at : ℕ) → Result Taken → (after : Memory) → Outcome → Type 0
-Agree at (ok t) after (Outcome.the-variants.Taken next group access) = Follows at t after next group access
-Agree at (ok t) after (Outcome.the-variants.Refused r) = ⊥
-Agree at (refused r) after (Outcome.the-variants.Taken next group access) = ⊥
-Agree at (refused r) after (Outcome.the-variants.Refused r′) = r ≡ r′
 
 -- The promise. From every state that the arrays stand for, the code takes or refuses an item of a record as the definition does; a refusal leaves
 -- every array as it was; and whatever the arrays hold, the step on arrays says what is answered and left.

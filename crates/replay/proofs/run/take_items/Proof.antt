@@ -4,7 +4,7 @@ use mathlib.Core.Path.{_≡_, refl, _∙_}
 use native.Mathlib.Omega.{arith}
 use borrow.Author.Needs.{needs}
 use Rattle.record.specs.Places.{firstItem}
-use Rattle.step.specs.Arrays.{memory}
+use Rattle.machine.specs.Arrays.{memory}
 use Rattle.record.proofs.Items.{item-found, item-refused}
 use Rattle.replay.specs.Items.{itemsOn, begun}
 use Rattle.replay.proofs.Turns.{ran-refused, ran-ended, items-done, turn-unread, turn-refused, turn-taken}

@@ -1,0 +1,2 @@
+-- The commands on arrays.
+pub mod Commands

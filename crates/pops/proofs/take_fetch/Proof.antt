@@ -1,0 +1,21 @@
+-- `take_fetch`: the oldest entry is popped, if there is one.
+use mathlib.Core.Path.{_∙_, sym}
+use Rattle.machine.proofs.Outcomes.{does-refused}
+use borrow.Author.Needs.{needs}
+use Rattle.pops.proofs.take_fetch.Statement.{statement}
+use Rattle.pops.proofs.take_fetch.Tie as tie
+
+returns : tie.Need-returns
+returns c =
+    let atEntry = c .before .before .before in
+    let atHead = atEntry .before in
+    λ control registers.
+    rw (sym (atHead .before .before .oldest .ensures) ∙ atHead .head .given .1) (c .fetch-entry .ensures control registers)
+
+returns-2 : tie.Need-returns-2
+returns-2 c = λ control registers. does-refused (rw (sym (c .before .before .oldest .ensures) ∙ c .enum-told .given .1))
+
+pub take-fetch-spec : {M : Type 1} → statement M
+take-fetch-spec =
+    tie.close
+    (tie.spec (λ c κs. search needs) (λ c. search needs) (λ c κs. search needs) (λ c. search needs) returns returns-2)

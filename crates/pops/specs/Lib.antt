@@ -1,0 +1,2 @@
+-- The pops on arrays.
+pub mod Pops
