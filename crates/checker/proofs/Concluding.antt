@@ -23,7 +23,7 @@ use Rattle.memory.proofs.Filled.{made-holds}
 use Rattle.graph.specs.Edges.{groupList}
 use Rattle.lists.proofs.Ranks.{rank-none}
 use Rattle.lists.proofs.Results.{cells-listed}
-use Rattle.replay.specs.Trails.{trailOf}
+use Rattle.trails.specs.Trails.{trailOf}
 use Rattle.happens_before.proofs.Accepted.{accepted-tellable}
 use Rattle.verdicts.specs.declared.Judged.{Judged}
 use Rattle.verdicts.specs.Judged as verdicts

@@ -23,7 +23,7 @@ use Rattle.graph.proofs.Edges.{filled-at}
 use Rattle.record.specs.Places.{ItemsFrom, firstItem}
 use Rattle.record.proofs.Places.{record-items}
 use Rattle.record_facts.proofs.Bounds.{accepted-bounds}
-use Rattle.replay.specs.Trails.{rowOfEvent, trailOf, trailSize}
+use Rattle.trails.specs.Trails.{rowOfEvent, trailOf, trailSize}
 use Rattle.first_items.specs.Firsts.{firstIn, noFirsts, numberIn, firstItems, firstOf}
 use Rattle.first_items.proofs.Firsts.{TellsGroups, finds}
 

@@ -16,7 +16,7 @@ use Rattle.model.specs.HappensBefore.{edgesOf}
 use Rattle.model.specs.Checks.{Accepted, accept}
 use Rattle.record_facts.proofs.Bounds.{AccessIn, EventIn, Bounds, accepted-bounds}
 use Rattle.items.proofs.Accesses.{Placed}
-use Rattle.replay.specs.Trails.{trailOf}
+use Rattle.trails.specs.Trails.{trailOf}
 use Rattle.ordering.proofs.Counting.{edges-count}
 use Rattle.ordering.proofs.Retold.{Throughout}
 use Rattle.ordering.proofs.Runs.{run-proper}

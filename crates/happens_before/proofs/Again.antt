@@ -24,7 +24,7 @@ use Rattle.model.proofs.Replay.{sameAddress-true}
 use Rattle.memory.specs.Tables.{Table, Rank, Place, zeros}
 use Rattle.items.specs.Accesses.{addressNumber, accessNumber}
 use Rattle.items.proofs.Accesses.{Placed}
-use Rattle.replay.specs.Trails.{commandRank, rowOfEvent, trailOf, trailSize}
+use Rattle.trails.specs.Trails.{commandRank, rowOfEvent, trailOf, trailSize}
 use Rattle.graph.proofs.Edges.{filled-at, read-each}
 use Rattle.ordering.proofs.Retold.{Retells, Throughout, events-retold}
 use Rattle.happens_before.specs.Told.{maxAddresses, atMost, toldIn, toldAt, kindTold, accessTold, eventTold, eventsTold}

@@ -7,7 +7,7 @@ use Rattle.model.specs.Orders.{verdict}
 use Rattle.model.specs.Checks.{verdictOn}
 use Rattle.ordering.proofs.Runs.{Listed, run-lists}
 use Rattle.graph.proofs.Edges.{groups-in}
-use Rattle.replay.specs.Trails.{trailOf}
+use Rattle.trails.specs.Trails.{trailOf}
 use Rattle.happens_before.proofs.Accepted.{TellableRun, run-drawn}
 use Rattle.judging.specs.Told.{verdictTold}
 

@@ -16,7 +16,7 @@ use Rattle.memory.specs.Tables.{Table, cellsSize}
 use Rattle.memory.specs.Copies.{tableOf}
 use Rattle.graph.specs.Edges.{groupList}
 use Rattle.lines.specs.Lines.{answerLine}
-use Rattle.replay.specs.Trails.{trailOf}
+use Rattle.trails.specs.Trails.{trailOf}
 use Rattle.happens_before.proofs.Accepted.{TellableRun, accepted-tellable}
 use Rattle.verdicts.proofs.Answers.{answer-is}
 use Rattle.judging.specs.Told.{verdictTold}

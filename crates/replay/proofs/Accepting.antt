@@ -11,7 +11,7 @@ use Rattle.memory.specs.Tables.{cellsSize}
 use Rattle.memory.specs.Copies.{tableOf}
 use Rattle.replay.specs.declared.Acceptance as Acceptance
 use Rattle.replay.specs.declared.Acceptance.{Acceptance}
-use Rattle.replay.specs.Trails.{trailOf}
+use Rattle.trails.specs.Trails.{trailOf}
 use Rattle.replay.specs.Handed.{Lent, HandsOver}
 
 -- An accepted record, with what is known of it where the replay answers so.

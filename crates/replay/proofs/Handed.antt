@@ -30,12 +30,12 @@ use Rattle.items.specs.declared.rows.Progress.{Progress}
 use Rattle.machine.specs.Arrays.{Memory, memory}
 use Rattle.machine.specs.Standing as Step
 use Rattle.replay.specs.declared.Acceptance as Acceptance
-use Rattle.replay.specs.declared.run.Ran as Ran
-use Rattle.replay.specs.declared.run.Ran.{Ran}
-use Rattle.replay.specs.Trails.{trailSize}
-use Rattle.replay.specs.Items.{RunState, itemsOn, begun, RunsAs}
+use Rattle.runs.specs.declared.Ran as Ran
+use Rattle.runs.specs.declared.Ran.{Ran}
+use Rattle.trails.specs.Trails.{trailSize}
+use Rattle.runs.specs.Items.{RunState, itemsOn, begun, RunsAs}
 use Rattle.replay.specs.Handed.{Readable, Lent, lent, HandsOver, acceptItems}
-use Rattle.replay.proofs.Simulation.{Reached, Together, together, events-counted}
+use Rattle.runs.proofs.Simulation.{Reached, Together, together, events-counted}
 
 -- The arrays as they are made, over a copy of the lent cells.
 abbrev pub made : (copy : Table) → Memory

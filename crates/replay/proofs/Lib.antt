@@ -1,5 +1,3 @@
-pub mod Simulation
 pub mod Handed
 pub mod Reading
-pub mod Turns
 pub mod Accepting

@@ -17,7 +17,7 @@ use Rattle.memory.specs.Tables.{Table, cellsSize, registersSize}
 use Rattle.memory.specs.Copies.{byRank, tableOf}
 use Rattle.replay.specs.declared.Acceptance as Acceptance
 use Rattle.replay.specs.declared.Acceptance.{Acceptance}
-use Rattle.replay.specs.Trails.{trailOf}
+use Rattle.trails.specs.Trails.{trailOf}
 
 -- The contents of the lent arrays.
 pub record Lent : Type 0 where

@@ -1,4 +1,2 @@
 -- What the replay's code answers and hands over, by the definitions of `model`.
-pub mod Trails
-pub mod Items
 pub mod Handed

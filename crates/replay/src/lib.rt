@@ -1,9 +1,5 @@
 // The replay of a record on a program: the program is read, then the record, then its items are taken in turn, and at the end no row is open and all
 // queues are empty.
-mod run;
-
-use crate::run::Ran;
-use crate::run::take_items;
 use memory::copies::copied_cells;
 use model::Cells;
 use model::Control;
@@ -25,6 +21,8 @@ use queues::ENTRY;
 use queues::ending::all_empty;
 use record::reader::RecordRead;
 use record::reader::read_record;
+use runs::Ran;
+use runs::take_items;
 ghost use Rattle.model.specs.Checks.{accept};
 ghost use Rattle.memory.specs.Copies.{startIn};
 ghost use Rattle.replay.specs.Handed.{Readable, HandsOver, lent, acceptItems};

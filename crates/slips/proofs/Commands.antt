@@ -29,7 +29,7 @@ use Rattle.memory.specs.Tables.{zeros}
 use Rattle.memory.specs.Copies.{byRank}
 use Rattle.memory.proofs.Filled.{list-of}
 use Rattle.graph.proofs.Edges.{filled-at, read-each}
-use Rattle.replay.specs.Trails.{commandRank, rowOfEvent, trailOf, trailSize}
+use Rattle.trails.specs.Trails.{commandRank, rowOfEvent, trailOf, trailSize}
 use Rattle.slips.specs.Tallies.{rankTold, ranksTold, timesIn, tallied}
 use Rattle.slips.proofs.Numbers.{selected-few}
 use Rattle.slips.proofs.Tallies.{tally-length, tally-at}

@@ -28,8 +28,8 @@ use Rattle.step.specs.Standing.{Loaded, ItemFits}
 use Rattle.step.proofs.ItemSteps.{promised}
 use Rattle.items.specs.Accesses.{accessNumber}
 use Rattle.record.specs.Places.{ItemsFrom, ended, then}
-use Rattle.replay.specs.Trails.{rowOfEvent, told, trailOf, trailSize}
-use Rattle.replay.specs.Items.{RunState, itemsOn}
+use Rattle.trails.specs.Trails.{rowOfEvent, told, trailOf, trailSize}
+use Rattle.runs.specs.Items.{RunState, itemsOn}
 
 -- An item that was read fits.
 item-fits : {h : Header} {bytes : List ℕ} {i : Item} → Ranged h bytes i → ItemFits h i

@@ -9,9 +9,9 @@ use Rattle.memory.specs.Tables.{Table}
 use Rattle.items.specs.declared.rows.Progress.{Progress}
 use Rattle.machine.specs.Arrays.{Memory}
 use Rattle.step.specs.Steps.{itemOn}
-use Rattle.replay.specs.declared.run.Ran as Ran
-use Rattle.replay.specs.declared.run.Ran.{Ran}
-use Rattle.replay.specs.Trails.{told}
+use Rattle.runs.specs.declared.Ran as Ran
+use Rattle.runs.specs.declared.Ran.{Ran}
+use Rattle.trails.specs.Trails.{told}
 
 -- Where the replay stands: its arrays, how far it is, and what it has told.
 pub record RunState : Type 0 where

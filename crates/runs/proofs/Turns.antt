@@ -17,9 +17,9 @@ use Rattle.items.specs.declared.rows.Progress.{Progress}
 use Rattle.machine.specs.Arrays.{Memory}
 use Rattle.machine.specs.Outcomes.{Left, Does}
 use Rattle.step.specs.Steps.{itemOn}
-use Rattle.replay.specs.declared.run.Ran as Ran
-use Rattle.replay.specs.Trails.{told}
-use Rattle.replay.specs.Items.{RunState, itemsOn, RunsAs}
+use Rattle.runs.specs.declared.Ran as Ran
+use Rattle.trails.specs.Trails.{told}
+use Rattle.runs.specs.Items.{RunState, itemsOn, RunsAs}
 
 -- The two ends of the loop.
 pub ran-refused : {definition : Result RunState} {m : Memory} {trail : Table} {r : Refusal} → definition ≡ refused r →

@@ -1,9 +1,9 @@
 -- `tell`: the code's test for room is the definition's. Assumes nothing.
 use borrow.Author.Needs.{needs}
 use borrow.Author.Tests.{lt-ltb, le-ltb}
-use Rattle.replay.specs.Trails.{told}
-use Rattle.replay.proofs.run.tell.Statement.{statement}
-use Rattle.replay.proofs.run.tell.Tie as tie
+use Rattle.trails.specs.Trails.{told}
+use Rattle.trails.proofs.tell.Statement.{statement}
+use Rattle.trails.proofs.tell.Tie as tie
 
 returns : tie.Need-returns
 unfolding told

@@ -1,13 +1,9 @@
-// The items of a record in turn, each read at its place and taken, and what the drawing of arrows needs of each.
-use items::kinds::same_kind;
+// The items of a record in turn, each read at its place and taken, on the machine's arrays; and what is told of each.
 use items::rows::Progress;
 use machine::Outcome;
 use model::Cells;
 use model::Control;
 use model::Header;
-use model::ITEMS;
-use model::Item;
-use model::Kind;
 use model::Refusal;
 use model::Registers;
 use model::Starts;
@@ -18,39 +14,15 @@ use record::item::ItemRead;
 use record::item::read_item;
 use record::reader::FIRST_ITEM;
 use step::take_item;
-ghost use mathlib.Core.Path.{_≡_};
+use trails::tell;
 ghost use Rattle.record.specs.Places.{firstItem};
 ghost use Rattle.machine.specs.Arrays.{memory};
-ghost use Rattle.replay.specs.Trails.{commandRank, told};
-ghost use Rattle.replay.specs.Items.{itemsOn, begun, RunsAs};
+ghost use Rattle.runs.specs.Items.{itemsOn, begun, RunsAs};
 
 // All items taken, and how far the replay is then; or the first refusal.
 pub enum Ran {
     Ended(Progress),
     Refused(Refusal),
-}
-
-// "Pops are not in program order": the rank of a command, and 0 for a pop.
-fn command_rank(item: Item) -> u16
-    ensures { λ r. ⌜ r ≡ commandRank item ⌝ }
-{
-    let kind = item.kind;
-    if same_kind(kind, Kind::Popa) {
-        return 0;
-    }
-    if same_kind(kind, Kind::Popb) {
-        return 0;
-    }
-    item.rank
-}
-
-// What is told of the item with the number `at`.
-fn tell(trail: &mut Trail, at: usize, item: Item, group: u16, access: u16)
-    ensures { λ r. ⌜ now (trail .exit) ≡ told (now (trail .entry)) at item group access ⌝ }
-{
-    if at < ITEMS {
-        trail[at] = [command_rank(item), group, access];
-    }
 }
 
 // So many items from the first on, from the start that the arrays hold. Row i of the trail tells of item i.

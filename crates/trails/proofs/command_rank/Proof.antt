@@ -1,8 +1,8 @@
 -- `command_rank`: the two pops are the kinds of no command. Assumes nothing.
 use mathlib.Core.Path.{sym, _∙_}
 use borrow.Author.Needs.{needs}
-use Rattle.replay.proofs.run.command_rank.Statement.{statement}
-use Rattle.replay.proofs.run.command_rank.Tie as tie
+use Rattle.trails.proofs.command_rank.Statement.{statement}
+use Rattle.trails.proofs.command_rank.Tie as tie
 
 returns : tie.Need-returns
 returns c = rw (sym (c .before .same-kind .ensures) ∙ c .if1 .taken)

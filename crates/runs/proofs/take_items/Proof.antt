@@ -6,10 +6,10 @@ use borrow.Author.Needs.{needs}
 use Rattle.record.specs.Places.{firstItem}
 use Rattle.machine.specs.Arrays.{memory}
 use Rattle.record.proofs.Items.{item-found, item-refused}
-use Rattle.replay.specs.Items.{itemsOn, begun}
-use Rattle.replay.proofs.Turns.{ran-refused, ran-ended, items-done, turn-unread, turn-refused, turn-taken}
-use Rattle.replay.proofs.run.take_items.Statement.{statement}
-use Rattle.replay.proofs.run.take_items.Tie as tie
+use Rattle.runs.specs.Items.{itemsOn, begun}
+use Rattle.runs.proofs.Turns.{ran-refused, ran-ended, items-done, turn-unread, turn-refused, turn-taken}
+use Rattle.runs.proofs.take_items.Statement.{statement}
+use Rattle.runs.proofs.take_items.Tie as tie
 
 abbrev Inv-loop : tie.InvT-loop
 Inv-loop program starts header recorded count control₀ registers₀ cells₀ pool₀ ends₀ trail₀ place₀ left₀ progress₀ control registers cells pool ends trail place left progress =

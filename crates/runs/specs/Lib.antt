@@ -1,0 +1,2 @@
+-- The items of a record on arrays.
+pub mod Items

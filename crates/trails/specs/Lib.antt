@@ -1,0 +1,2 @@
+-- What is told of each item.
+pub mod Trails
