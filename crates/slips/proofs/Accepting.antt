@@ -17,8 +17,8 @@ use Rattle.replay.specs.declared.Acceptance.{Acceptance}
 use Rattle.replay.specs.Handed as Handed
 use Rattle.replay.specs.Handed.{HandsOver}
 use Rattle.replay.proofs.Accepting.{accept-refused, accept-found}
+use Rattle.rank_counts.specs.Tallies.{ranksTold, tallied}
 use Rattle.slips.specs.Answers.{answering}
-use Rattle.slips.specs.Tallies.{ranksTold, tallied}
 use Rattle.slips.specs.Writing.{slipFrom}
 use Rattle.slips.proofs.Commands.{commands-tallied}
 use Rattle.slips.proofs.Writing.{slip-accepted}

@@ -30,9 +30,9 @@ use Rattle.memory.specs.Copies.{byRank}
 use Rattle.memory.proofs.Filled.{list-of}
 use Rattle.graph.proofs.Edges.{filled-at, read-each}
 use Rattle.trails.specs.Trails.{commandRank, rowOfEvent, trailOf, trailSize}
-use Rattle.slips.specs.Tallies.{rankTold, ranksTold, timesIn, tallied}
-use Rattle.slips.proofs.Numbers.{selected-few}
-use Rattle.slips.proofs.Tallies.{tally-length, tally-at}
+use Rattle.rank_counts.specs.Tallies.{rankTold, ranksTold, timesIn, tallied}
+use Rattle.rank_counts.proofs.Numbers.{selected-few}
+use Rattle.rank_counts.proofs.Tallies.{tally-length, tally-at}
 
 -- One item: a command counts for its rank, and a pop for none.
 module _ (rank : ℕ) where

@@ -1,10 +1,5 @@
-pub mod Numbers
-pub mod RankMaps
-pub mod Rows
-pub mod Tallies
 pub mod Commands
 pub mod Writing
-pub mod Gathering
 pub mod Lending
 pub mod Putting
 pub mod Accepting

@@ -13,12 +13,13 @@ use Rattle.model.specs.Checks.{fill, entryBytes}
 use Rattle.model.specs.Slips.{lend}
 use Rattle.lists.specs.Written.{wordsWritten}
 use Rattle.lists.proofs.Results.{group-words-written}
+use Rattle.rank_counts.specs.Maps.{slipLength}
+use Rattle.rank_counts.specs.Counts.{noCounts, mapOf, countsOf}
+use Rattle.rank_counts.proofs.Mapping.{map-small, counts-ones}
 use Rattle.slips.specs.Answers.{answering}
-use Rattle.slips.specs.Maps.{slipLength}
-use Rattle.slips.specs.Reading.{noCounts}
-use Rattle.slips.specs.Writing.{mapOf, countsOf, slipFrom}
+use Rattle.slips.specs.Writing.{slipFrom}
 use Rattle.slips.proofs.Lending.{lends, lends-nothing}
-use Rattle.slips.proofs.Writing.{map-small, counts-ones, slip-length}
+use Rattle.slips.proofs.Writing.{slip-length}
 
 -- Where the part behind the first byte is changed, the first byte stays.
 behind-first : (first x : ℕ) (rest part : List ℕ) →

@@ -18,9 +18,10 @@ use Rattle.model.specs.Slips.{readCounts, slipReader}
 use Rattle.model.proofs.Laws.{decided, between-true}
 use Rattle.model.proofs.Bytes.{Finds, finds-anything, finds-bind, finds-pure, judged-ok, byte-next}
 use Rattle.memory.proofs.Filled.{numbers-length}
-use Rattle.slips.specs.Maps.{rowsOf}
-use Rattle.slips.specs.Reading.{noCounts, countReader, readRows, countsBehind, mapReader, countsIn}
-use Rattle.slips.proofs.Rows.{rows-few}
+use Rattle.rank_counts.specs.Maps.{rowsOf}
+use Rattle.rank_counts.specs.Counts.{noCounts}
+use Rattle.rank_counts.proofs.Rows.{rows-few}
+use Rattle.slips.specs.Reading.{countReader, readRows, countsBehind, mapReader, countsIn}
 
 -- Counts joined those of lower and of higher ranks.
 abbrev joined : (done new rest : List ℕ) → List ℕ

@@ -21,9 +21,9 @@ use Rattle.model.specs.Slips.{countBytes, readCounts, slipReader}
 use Rattle.model.proofs.Laws.{decided, bind-ok, ok-injective, true-between, between-true}
 use Rattle.model.proofs.Bytes.{judged-ok, whole-ok}
 use Rattle.memory.proofs.Filled.{list-of}
+use Rattle.rank_counts.specs.Counts.{countFor}
+use Rattle.rank_counts.proofs.RankMaps.{held, mapTo, map-fits, map-bit, map-is}
 use Rattle.slips.specs.Reading.{countReader, mapReader}
-use Rattle.slips.specs.Writing.{countFor}
-use Rattle.slips.proofs.RankMaps.{held, mapTo, map-fits, map-bit, map-is}
 use Rattle.slips.proofs.Reading.{map-read}
 use Rattle.slips.proofs.Standing.{byte-stands, word-read, behind-word, word-stands}
 use Rattle.slips.proofs.Answering.{whole-length}

@@ -20,11 +20,12 @@ use Rattle.fields.specs.declared.Field.{Field}
 use Rattle.fields.specs.declared.Field.the-variants as Field
 use Rattle.fields.specs.Fields.{fieldOf, fieldRefusal}
 use Rattle.fields.proofs.Fields.{field-told}
+use Rattle.rank_counts.specs.Maps.{rowsOf, lowestRow, slipLength}
+use Rattle.rank_counts.specs.Counts.{noCounts}
+use Rattle.rank_counts.proofs.Rows.{rows-none, row-fits, rows-next, rows-ones}
 use Rattle.slips.specs.declared.reader.SlipRead.{SlipRead}
-use Rattle.slips.specs.Maps.{rowsOf, lowestRow, slipLength}
-use Rattle.slips.specs.Reading.{noCounts, countReader, readRows, countsBehind, mapReader, countsIn}
+use Rattle.slips.specs.Reading.{countReader, readRows, countsBehind, mapReader, countsIn}
 use Rattle.slips.specs.Reads.{readAs}
-use Rattle.slips.proofs.Rows.{rows-none, row-fits, rows-next, rows-ones}
 use Rattle.slips.proofs.Reading.{map-read}
 
 -- A count takes two bytes.

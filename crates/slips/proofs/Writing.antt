@@ -1,33 +1,32 @@
 -- The slip of an accepted record is the slip from its ranks' counts. The definition goes rank by rank up to N, and the code row by row of the map;
 -- the ranks above N have no count.
-use Prim.Native.Nat.{ℕ, zero, suc, _+_, _-_, _*_, _/_, _%_, _^_, _≤_, _<_}
+use Prim.Native.Nat.{ℕ, zero, suc, _+_, _-_, _/_, _%_, _^_, _≤_, _<_}
 use mathlib.Core.Path.{_≡_, refl, sym, ap, ap₂, _∙_}
 use mathlib.Core.List.{List, _∷_, map}
-use native.Mathlib.Numerals.{add-one}
 use native.Mathlib.Omega.{arith}
-use lib.Bits.{bitOr}
-use lib.Count.{ones}
 use lib.Dec.{ltb}
-use lib.ListN.{length, getD, length-map}
+use lib.ListN.{length, getD}
 use lib.Pow.{pow-mono}
-use borrow.Author.Tests.{ltb-true, ltb-false, lt-ltb, le-ltb}
+use borrow.Author.Tests.{ltb-true, ltb-false}
 use Rattle.model.specs.Limits.{maxRanks, byteValues}
 use Rattle.model.specs.Choice.{select, numbersFrom}
 use Rattle.model.specs.Checks.{Accepted, accept, entryBytes}
 use Rattle.model.specs.Machine.{Start}
 use Rattle.model.specs.Refusals.{ok}
-use Rattle.model.specs.Slips.{rankMap, countBytes, slipOf}
+use Rattle.model.specs.Slips.{countBytes, slipOf}
 use Rattle.model.proofs.Laws.{decided}
 use Rattle.record_facts.proofs.Bounds.{accepted-bounds}
 use Rattle.memory.specs.Copies.{byRank}
 use Rattle.memory.proofs.Filled.{numbers-at}
-use Rattle.bitmap.proofs.Bits.{bit-beyond, shifted}
+use Rattle.bitmap.proofs.Bits.{bit-beyond}
 use Rattle.lists.proofs.Pasted.{entry-length}
-use Rattle.slips.specs.Maps.{rowsOf, slipLength}
-use Rattle.slips.specs.Writing.{countFor, mapOf, countsOf, slipFrom}
-use Rattle.slips.proofs.Numbers.{numbers-same, numbers-mapped}
-use Rattle.slips.proofs.RankMaps.{held, mapTo, map-fits, map-bit, map-is, map-joined, map-without}
-use Rattle.slips.proofs.Rows.{rows-few, rows-ones}
+use Rattle.rank_counts.specs.Maps.{rowsOf, slipLength}
+use Rattle.rank_counts.specs.Counts.{countFor, mapOf, countsOf}
+use Rattle.rank_counts.proofs.Numbers.{numbers-same, numbers-mapped}
+use Rattle.rank_counts.proofs.RankMaps.{held, mapTo, map-fits, map-bit, map-is}
+use Rattle.rank_counts.proofs.Rows.{rows-few}
+use Rattle.rank_counts.proofs.Mapping.{map-small, counts-ones}
+use Rattle.slips.specs.Writing.{slipFrom}
 use Rattle.slips.proofs.Commands.{commands-none}
 
 -- The bytes of the counts, rank by rank, are those of the rows that have one.
@@ -85,51 +84,7 @@ slip-accepted start program recorded a accepted counts is =
     (λ row below. ap (λ l. getD l row 0) is ∙ numbers-at (a .run .last .taken) 1 maxRanks row 0 below)
     (commands-none start program recorded a accepted)
 
--- The map of the ranks below a row, as a loop makes it.
-pub record Mapping (counts : List ℕ) (row map : ℕ) : Type 0 where
-  pub within : row ≤ maxRanks
-  pub made : map ≡ mapTo (countFor counts) row
-
-module _ (counts : List ℕ) where
-  pub mapping-none : Mapping counts 0 0
-  unfolding rankMap numbersFrom
-  mapping-none = record { within = omega arith; made = refl }
-
-  module _ {row map : ℕ} (so-far : Mapping counts row map) (more : row < maxRanks) where
-    row-held : held (countFor counts) row ≡ ltb 0 (getD counts row 0)
-    row-held = let e : 1 + row - 1 ≡ row = omega arith in ap (λ i. ltb 0 (getD counts i 0)) e
-
-    pub mapping-with : 0 < getD counts row 0 → Mapping counts (row + 1) (bitOr map (1 * 2 ^ row % 2 ^ maxRanks))
-    mapping-with some =
-        record {
-          within = omega arith;
-          made =
-              rw (shifted maxRanks row more, so-far .made, add-one row)
-              (sym (map-joined (countFor counts) row (row-held ∙ lt-ltb _ _ some)));
-        }
-
-    pub mapping-without : getD counts row 0 ≤ 0 → Mapping counts (row + 1) map
-    mapping-without none =
-        record {
-          within = omega arith;
-          made = rw (so-far .made, add-one row) (sym (map-without (countFor counts) row (row-held ∙ le-ltb _ _ none)));
-        }
-
-  pub mapping-all : {row map : ℕ} → Mapping counts row map → maxRanks ≤ row → map ≡ mapOf counts
-  unfolding mapOf
-  mapping-all {row} so-far h =
-      let e : row ≡ maxRanks = omega (arith, so-far .within) in
-      so-far .made ∙ ap (mapTo (countFor counts)) e
-
 -- It has as many bytes as the map asks for.
-pub map-small : (counts : List ℕ) → mapOf counts < 2 ^ maxRanks
-unfolding mapOf
-map-small counts = map-fits (countFor counts) maxRanks
-
-pub counts-ones : (map : ℕ) (counts : List ℕ) → map < 2 ^ maxRanks → length (countsOf map counts) ≡ ones map
-unfolding countsOf
-counts-ones map counts small = length-map (rowsOf map) (λ row. getD counts row 0) ∙ sym (rows-ones map small)
-
 pub slip-length : (counts : List ℕ) → length (slipFrom counts) ≡ slipLength (mapOf counts)
 unfolding slipFrom
 slip-length counts = omega (arith, entry-length (countsOf (mapOf counts) counts), counts-ones (mapOf counts) counts (map-small counts))

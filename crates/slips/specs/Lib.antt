@@ -1,7 +1,5 @@
 -- What the slip's code works out on the way, by the definitions of `model`.
 pub mod Answers
-pub mod Maps
-pub mod Tallies
 pub mod Writing
 pub mod Reading
 pub mod Reads

@@ -2,16 +2,14 @@
 use Prim.Native.Nat.{ℕ, _^_}
 use mathlib.Core.List.{List, [], _∷_}
 use lib.Dec.{ltb, eqb}
-use lib.ListN.{length, set, replicate}
+use lib.ListN.{length, set}
 use Rattle.model.specs.Limits.{maxRanks, maxItems}
 use Rattle.model.specs.Refusals as Refusals
 use Rattle.model.specs.Refusals.{Result, ok, refuse, require, slipForm}
 use Rattle.model.specs.Choice.{when, between}
 use Rattle.model.specs.Bytes.{Reader, _>>=_, pure, byte, word, judged}
-use Rattle.slips.specs.Maps.{rowsOf}
-
-abbrev pub noCounts : List ℕ
-noCounts = replicate maxRanks 0
+use Rattle.rank_counts.specs.Maps.{rowsOf}
+use Rattle.rank_counts.specs.Counts.{noCounts}
 
 -- "a count of 0 or above 1,024, a missing byte .. is 16 there"
 abbrev pub countReader : Reader ℕ

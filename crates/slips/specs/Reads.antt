@@ -3,8 +3,8 @@ use Prim.Native.Nat.{ℕ}
 use mathlib.Core.List.{List}
 use Rattle.model.specs.declared.Filled.the-variants.{Entries, Refused}
 use Rattle.model.specs.Refusals.{Result, ok, refused}
+use Rattle.rank_counts.specs.Counts.{noCounts}
 use Rattle.slips.specs.declared.reader.SlipRead.{SlipRead}
-use Rattle.slips.specs.Reading.{noCounts}
 
 abbrev pub readAs : (ranks : ℕ) → Result (List ℕ) → SlipRead
 readAs ranks (ok counts) = record { answer = Entries ranks; counts = counts }

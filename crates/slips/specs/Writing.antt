@@ -1,23 +1,8 @@
 -- The slip from one count for each rank that there may be, rank 1 first.
-use Prim.Native.Nat.{ℕ, _-_}
-use mathlib.Core.List.{List, _∷_, map as List·map}
-use lib.ListN.{getD}
-use Rattle.model.specs.Limits.{maxRanks}
-use Rattle.model.specs.Choice.{numbersFrom}
+use Prim.Native.Nat.{ℕ}
+use mathlib.Core.List.{List, _∷_}
 use Rattle.model.specs.Checks.{entryBytes}
-use Rattle.model.specs.Slips.{rankMap}
-use Rattle.slips.specs.Maps.{rowsOf}
-
--- A rank's count.
-abbrev pub countFor : (counts : List ℕ) → (rank : ℕ) → ℕ
-countFor counts rank = getD counts (rank - 1) 0
-
--- The map of the ranks with a count, and their counts, ranks rising.
-unfoldable pub mapOf : (counts : List ℕ) → ℕ
-mapOf counts = rankMap (countFor counts) (numbersFrom 1 maxRanks)
-
-unfoldable pub countsOf : (map : ℕ) → (counts : List ℕ) → List ℕ
-countsOf map counts = List·map (λ row. getD counts row 0) (rowsOf map)
+use Rattle.rank_counts.specs.Counts.{mapOf, countsOf}
 
 unfoldable pub slipFrom : (counts : List ℕ) → List ℕ
 slipFrom counts = mapOf counts ∷ entryBytes (countsOf (mapOf counts) counts)

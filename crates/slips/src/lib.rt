@@ -1,13 +1,6 @@
 // The slip of a run: how many command items each rank has, written as bytes and read back.
-mod counts;
-mod maps;
 mod reader;
 
-use crate::counts::command_counts;
-use crate::counts::counts_of;
-use crate::maps::map_of;
-use crate::maps::ranks_in;
-use crate::maps::slip_length;
 use crate::reader::counts_in;
 use lists::write_numbers;
 use lists::write_words;
@@ -19,6 +12,12 @@ use model::REGISTERS;
 use model::Refusal;
 use model::TOLD;
 use model::refusals::MEMORY_TOO_SHORT;
+use rank_counts::Counts;
+use rank_counts::counts::command_counts;
+use rank_counts::counts::counts_of;
+use rank_counts::maps::map_of;
+use rank_counts::maps::ranks_in;
+use rank_counts::maps::slip_length;
 use replay::Acceptance;
 use replay::replay;
 ghost use mathlib.Core.Path.{_≡_};
@@ -26,9 +25,6 @@ ghost use Rattle.model.specs.Refusals.{ok};
 ghost use Rattle.model.specs.Slips.{lend, writeSlip, readSlip};
 ghost use Rattle.slips.specs.Answers.{answering};
 ghost use Rattle.slips.specs.Writing.{slipFrom};
-
-// A count for each rank that there may be, rank 1 first.
-pub type Counts = [u16; RANKS];
 
 // The slip of these counts, where there is room for all of it.
 fn write_counts(counts: &Counts, slip: &mut [u8]) -> Filled

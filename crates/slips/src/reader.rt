@@ -1,7 +1,4 @@
 // Reading a slip: its map, then a count for each bit of the map, lowest first, and nothing left over.
-use crate::Counts;
-use crate::maps::lowest_row;
-use crate::maps::slip_length;
 use fields::Field;
 use fields::below;
 use fields::read_byte;
@@ -12,6 +9,9 @@ use model::ITEMS;
 use model::RANKS;
 use model::Refusal;
 use model::refusals::SLIP_FORM;
+use rank_counts::Counts;
+use rank_counts::maps::lowest_row;
+use rank_counts::maps::slip_length;
 ghost use mathlib.Core.Path.{_≡_};
 ghost use Prim.Native.Nat.{_≤_};
 ghost use Rattle.model.specs.Limits.{maxRanks};

@@ -3,7 +3,7 @@ use Prim.Native.Nat.{_<_}
 use native.Mathlib.Omega.{arith}
 use borrow.Author.Needs.{needs}
 use Rattle.model.specs.Limits.{maxRanks}
-use Rattle.slips.proofs.Rows.{map-falls}
+use Rattle.rank_counts.proofs.Rows.{map-falls}
 use Rattle.slips.proofs.Turns.{Turn, turn-first, turn-row, turn-refused, turn-next, turn-left, turn-last}
 use Rattle.slips.proofs.reader.counts_behind.Statement.{statement}
 use Rattle.slips.proofs.reader.counts_behind.Tie as tie

@@ -11,11 +11,10 @@ use Rattle.model.specs.Checks.{fill}
 use Rattle.memory.proofs.Filled.{fill-more}
 use Rattle.bitmap.specs.Bitmaps.{withoutLowest}
 use Rattle.bitmap.proofs.Bits.{Nonzero, without-fits}
-use Rattle.slips.specs.Maps.{lowestRow}
-use Rattle.slips.specs.Reading.{noCounts}
-use Rattle.slips.specs.Writing.{countsOf}
-use Rattle.slips.proofs.Rows.{rows-none, row-fits, rows-next}
-use Rattle.slips.proofs.Writing.{counts-ones}
+use Rattle.rank_counts.specs.Maps.{lowestRow}
+use Rattle.rank_counts.specs.Counts.{noCounts, countsOf}
+use Rattle.rank_counts.proofs.Rows.{rows-none, row-fits, rows-next}
+use Rattle.rank_counts.proofs.Mapping.{counts-ones}
 
 module _ (counts : List ℕ) where
   rest-none : countsOf 0 counts ≡ []

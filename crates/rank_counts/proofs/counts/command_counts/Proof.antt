@@ -5,9 +5,9 @@ use native.Mathlib.Nat.{min-le-right}
 use native.Mathlib.Omega.{arith}
 use borrow.Author.Needs.{needs}
 use Rattle.model.specs.Limits.{maxItems}
-use Rattle.slips.proofs.Tallies.{Tallying, tallying-none, tallying-few, tallying-counted, tallying-passed, tallying-all}
-use Rattle.slips.proofs.counts.command_counts.Statement.{statement}
-use Rattle.slips.proofs.counts.command_counts.Tie as tie
+use Rattle.rank_counts.proofs.Tallies.{Tallying, tallying-none, tallying-few, tallying-counted, tallying-passed, tallying-all}
+use Rattle.rank_counts.proofs.counts.command_counts.Statement.{statement}
+use Rattle.rank_counts.proofs.counts.command_counts.Tie as tie
 
 abbrev Inv-loop : tie.InvT-loop
 Inv-loop trail items counts₀ last item₀ counts item = Tallying trail last item counts

@@ -9,9 +9,8 @@ ghost use mathlib.Core.Path.{_≡_};
 ghost use Prim.Native.Nat.{min};
 ghost use Rattle.model.specs.Limits.{maxItems};
 ghost use Rattle.model.specs.Checks.{fill};
-ghost use Rattle.slips.specs.Tallies.{ranksTold, tallied};
-ghost use Rattle.slips.specs.Reading.{noCounts};
-ghost use Rattle.slips.specs.Writing.{countsOf};
+ghost use Rattle.rank_counts.specs.Tallies.{ranksTold, tallied};
+ghost use Rattle.rank_counts.specs.Counts.{noCounts, countsOf};
 
 // So many items, but no more than a trail has rows for.
 fn rows_told(items: usize) -> usize

@@ -3,8 +3,8 @@ use Prim.Native.Nat.{_≤_}
 use native.Mathlib.Omega.{arith}
 use lib.Count.{ones-le}
 use borrow.Author.Needs.{needs}
-use Rattle.slips.proofs.maps.slip_length.Statement.{statement}
-use Rattle.slips.proofs.maps.slip_length.Tie as tie
+use Rattle.rank_counts.proofs.maps.slip_length.Statement.{statement}
+use Rattle.rank_counts.proofs.maps.slip_length.Tie as tie
 
 few : (c : tie.After-ranks-in) → c .ranks-in .result ≤ 8
 few c = rw (c .ranks-in .ensures) (ones-le 8 (c .before .args .map) (search needs))

@@ -12,9 +12,9 @@ use Rattle.model.specs.Limits.{maxRanks}
 use Rattle.model.specs.Choice.{when, bit, select, numbersFrom}
 use Rattle.bitmap.specs.Bitmaps.{withoutLowest}
 use Rattle.bitmap.proofs.Bits.{Nonzero, bit-zero, lowest-fits, bit-lowest, bit-below-lowest, bit-without, bit-beyond}
-use Rattle.slips.specs.Maps.{rowsOf, lowestRow}
-use Rattle.slips.proofs.Numbers.{numbers-same, numbers-none, numbers-lowest, numbers-front}
-use Rattle.slips.proofs.RankMaps.{map-ones, map-is}
+use Rattle.rank_counts.specs.Maps.{rowsOf, lowestRow}
+use Rattle.rank_counts.proofs.Numbers.{numbers-same, numbers-none, numbers-lowest, numbers-front}
+use Rattle.rank_counts.proofs.RankMaps.{map-ones, map-is}
 
 pub rows-none : rowsOf 0 ≡ []
 unfolding rowsOf

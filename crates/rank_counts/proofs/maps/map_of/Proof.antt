@@ -3,9 +3,9 @@ use Prim.Native.Nat.{_-_}
 use mathlib.Core.Logic.{⊎-elim}
 use borrow.Author.Needs.{needs}
 use Rattle.model.specs.Limits.{maxRanks}
-use Rattle.slips.proofs.Writing.{Mapping, mapping-none, mapping-with, mapping-without, mapping-all}
-use Rattle.slips.proofs.maps.map_of.Statement.{statement}
-use Rattle.slips.proofs.maps.map_of.Tie as tie
+use Rattle.rank_counts.proofs.Mapping.{Mapping, mapping-none, mapping-with, mapping-without, mapping-all}
+use Rattle.rank_counts.proofs.maps.map_of.Statement.{statement}
+use Rattle.rank_counts.proofs.maps.map_of.Tie as tie
 
 abbrev Inv-loop : tie.InvT-loop
 Inv-loop counts map₀ row₀ map row = Mapping counts row map

@@ -3,8 +3,8 @@ use crate::Counts;
 use model::RANKS;
 ghost use mathlib.Core.Path.{_≡_};
 ghost use lib.Count.{ones};
-ghost use Rattle.slips.specs.Maps.{lowestRow, slipLength};
-ghost use Rattle.slips.specs.Writing.{mapOf};
+ghost use Rattle.rank_counts.specs.Maps.{lowestRow, slipLength};
+ghost use Rattle.rank_counts.specs.Counts.{mapOf};
 
 // A count of bits, to index with.
 fn wide(count: u32) -> usize

@@ -3,10 +3,10 @@ use Prim.Native.Nat.{_<_}
 use native.Mathlib.Omega.{arith}
 use borrow.Author.Needs.{needs}
 use Rattle.model.specs.Limits.{maxRanks}
-use Rattle.slips.proofs.Rows.{map-falls}
-use Rattle.slips.proofs.Gathering.{Gathering, gathering-none, gathering-row, gathering-room, gathering-more, gathering-all}
-use Rattle.slips.proofs.counts.counts_of.Statement.{statement}
-use Rattle.slips.proofs.counts.counts_of.Tie as tie
+use Rattle.rank_counts.proofs.Rows.{map-falls}
+use Rattle.rank_counts.proofs.Gathering.{Gathering, gathering-none, gathering-row, gathering-room, gathering-more, gathering-all}
+use Rattle.rank_counts.proofs.counts.counts_of.Statement.{statement}
+use Rattle.rank_counts.proofs.counts.counts_of.Tie as tie
 
 abbrev Inv-loop : tie.InvT-loop
 Inv-loop map counts listed₀ done₀ rest₀ listed done rest = Gathering map counts listed done rest
