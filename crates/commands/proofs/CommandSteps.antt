@@ -17,11 +17,11 @@ use Rattle.memory.specs.Tables.{Rank, controlAt, registersSize, rowAt}
 use Rattle.transitions.specs.Transitions.{commandOf}
 use Rattle.items.specs.declared.rows.Progress.{Progress}
 use Rattle.items.specs.Accesses.{accessNumber, accessTold}
-use Rattle.items.specs.Operands.{actionBy}
+use Rattle.operands.specs.Operands.{actionBy}
 use Rattle.items.specs.Progress.{commandProgress}
 use Rattle.items.proofs.Accesses.{told-number}
-use Rattle.items.proofs.Asked.{ActionFits, action-by, action-fits, kind-in}
-use Rattle.items.proofs.Registers.{register-held}
+use Rattle.operands.proofs.Asking.{ActionFits, action-by, action-fits, kind-in}
+use Rattle.operands.proofs.Registers.{register-held}
 use Rattle.machine.specs.Arrays.{Memory, cellsIn}
 use Rattle.machine.specs.Standing.{Holds, Standing, Follows}
 use Rattle.machine.proofs.Agreement.{Together, together-test, together-value, together-agreed, counted, same-opened, opened-few}

@@ -15,7 +15,7 @@ use Rattle.memory.specs.Tables.{controlAt, controlStored}
 use Rattle.transitions.specs.declared.transition.Transition.{Transition}
 use Rattle.items.specs.declared.rows.Progress.{Progress}
 use Rattle.items.specs.Accesses.{accessTold}
-use Rattle.items.specs.Operands.{kindIn, actionBy}
+use Rattle.operands.specs.Operands.{kindIn, actionBy}
 use Rattle.items.specs.Progress.{commandProgress}
 use Rattle.machine.specs.declared.Outcome.{Outcome}
 use Rattle.machine.specs.declared.Outcome.the-variants.{Taken, Refused}

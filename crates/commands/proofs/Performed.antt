@@ -8,7 +8,7 @@ use Rattle.model.specs.Limits.{maxItems, maxCells}
 use Rattle.memory.specs.Tables.{Rank}
 use Rattle.queues.proofs.Queued.{append-queued}
 use Rattle.items.proofs.Accesses.{Placed}
-use Rattle.items.proofs.Asked.{ActionFits}
+use Rattle.operands.proofs.Asking.{ActionFits}
 use Rattle.machine.specs.Arrays.{Memory, cellsIn}
 use Rattle.machine.specs.Standing.{Holds}
 use Rattle.machine.proofs.Held.{holds-later, holds-register, holds-cell}

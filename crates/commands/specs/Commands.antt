@@ -18,7 +18,7 @@ use Rattle.transitions.specs.declared.transition.TransitionRead.the-variants.{R
 use Rattle.transitions.specs.Transitions.{transitionRead}
 use Rattle.items.specs.declared.rows.Progress.{Progress}
 use Rattle.items.specs.Accesses.{accessTold}
-use Rattle.items.specs.Operands.{kindIn, actionBy}
+use Rattle.operands.specs.Operands.{kindIn, actionBy}
 use Rattle.items.specs.Progress.{commandProgress}
 use Rattle.machine.specs.Arrays.{Memory, cellsIn, withControl, withRegisters, withCells, withQueues}
 use Rattle.machine.specs.Outcomes.{Left, agreedOn}

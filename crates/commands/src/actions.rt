@@ -1,12 +1,12 @@
 // What an action accesses, and what it does to the arrays.
 use items::access::Accessed;
-use items::operands::Action;
 use memory::cell_at;
 use memory::set_cell;
 use memory::set_register;
 use model::Address;
 use model::Cells;
 use model::Registers;
+use operands::Action;
 use queues::Ends;
 use queues::Pool;
 use queues::Request;
@@ -18,7 +18,7 @@ ghost use Rattle.model.specs.Replay.{accessOf};
 ghost use Rattle.memory.specs.Tables.{cellsSize, numberAt};
 ghost use Rattle.items.specs.Accesses.{accessIn};
 ghost use Rattle.machine.specs.Arrays.{memory};
-ghost use Rattle.items.specs.Operands.{actionIn};
+ghost use Rattle.operands.specs.Operands.{actionIn};
 ghost use Rattle.commands.specs.Commands.{performOn};
 
 // "Loads .. read their cell; stores .. write theirs."

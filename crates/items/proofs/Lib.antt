@@ -1,4 +1,2 @@
--- Laws of these definitions: accesses, the registers of a program's transitions, and what a command asks for.
+-- Laws of accesses.
 pub mod Accesses
-pub mod Registers
-pub mod Asked

@@ -4,7 +4,7 @@ use borrow.Author.Tests.{not-true, not-false}
 use Rattle.model.specs.Replay.{agreesWith, accessOf}
 use Rattle.memory.specs.Tables.{cellsSize, numberAt}
 use Rattle.items.specs.Accesses.{accessTold}
-use Rattle.items.specs.Operands.{actionIn}
+use Rattle.operands.specs.Operands.{actionIn}
 use Rattle.commands.proofs.Outcomes.{action-differs, action-taken}
 use borrow.Author.Needs.{needs}
 use Rattle.commands.proofs.take_action.Statement.{statement}

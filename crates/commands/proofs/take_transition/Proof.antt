@@ -2,7 +2,7 @@
 use mathlib.Core.Path.{_≡_, _∙_, sym, ap}
 use borrow.Author.Tests.{not-true, not-false}
 use Rattle.model.specs.ItemKinds.{sameKind}
-use Rattle.items.specs.Operands.{kindIn, askedIn}
+use Rattle.operands.specs.Operands.{kindIn, askedIn}
 use Rattle.commands.proofs.Outcomes.{state-refused, kind-refused, operands-refused, operands-taken}
 use borrow.Author.Needs.{needs}
 use Rattle.commands.proofs.take_transition.Statement.{statement}

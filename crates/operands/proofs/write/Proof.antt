@@ -1,7 +1,7 @@
 -- `write`, by what came of the operands.
 use borrow.Author.Needs.{needs}
-use Rattle.items.proofs.operands.write.Statement.{statement}
-use Rattle.items.proofs.operands.write.Tie as tie
+use Rattle.operands.proofs.write.Statement.{statement}
+use Rattle.operands.proofs.write.Tie as tie
 
 returns : tie.Need-returns
 returns c = rw (c .before .transfer .given .1)

@@ -3,10 +3,10 @@ use borrow.Author.Tests.{lt-ltb, le-ltb, not-true, not-false}
 use mathlib.Core.Path.{_≡_, _∙_, sym}
 use mathlib.Core.Bool.{true}
 use Rattle.model.specs.Choice.{between}
-use Rattle.items.specs.Operands.{transferBy}
+use Rattle.operands.specs.Operands.{transferBy}
 use borrow.Author.Needs.{needs}
-use Rattle.items.proofs.operands.transfer.Statement.{statement}
-use Rattle.items.proofs.operands.transfer.Tie as tie
+use Rattle.operands.proofs.transfer.Statement.{statement}
+use Rattle.operands.proofs.transfer.Tie as tie
 
 inRanks : (c : tie.Else2) → let a = c .before .before .before .args in between 1 (a .header .ranks) (a .operands .rank) ≡ true
 inRanks c = sym (c .before .is-rank .ensures) ∙ not-false _ (c .if2 .left)

@@ -1,7 +1,7 @@
 -- `on_cell`: the test is the definition's.
 use borrow.Author.Tests.{lt-ltb, le-ltb}
-use Rattle.items.proofs.operands.on_cell.Statement.{statement}
-use Rattle.items.proofs.operands.on_cell.Tie as tie
+use Rattle.operands.proofs.on_cell.Statement.{statement}
+use Rattle.operands.proofs.on_cell.Tie as tie
 
 returns : tie.Need-returns
 returns c = rw (lt-ltb _ _ (c .if1 .taken))

@@ -12,12 +12,12 @@ use Rattle.model.specs.Machine.{Transfer, address, loads, stores, assigns, pass
 use Rattle.transitions.specs.declared.transition.Operands.{Operands}
 use Rattle.transitions.specs.declared.transition.Command.{Command}
 use Rattle.transitions.specs.declared.transition.Command.the-variants.{Load, Store, Assign, Assume, Read, Write, Bar}
-use Rattle.items.specs.declared.operands.Action as Action
-use Rattle.items.specs.declared.operands.Action.{Action}
-use Rattle.items.specs.declared.operands.Asked as Asked
-use Rattle.items.specs.declared.operands.Asked.{Asked}
-use Rattle.items.specs.declared.operands.Transferred as Transferred
-use Rattle.items.specs.declared.operands.Transferred.{Transferred}
+use Rattle.operands.specs.declared.Action as Action
+use Rattle.operands.specs.declared.Action.{Action}
+use Rattle.operands.specs.declared.Asked as Asked
+use Rattle.operands.specs.declared.Asked.{Asked}
+use Rattle.operands.specs.declared.Transferred as Transferred
+use Rattle.operands.specs.declared.Transferred.{Transferred}
 
 -- The kind of a transition, by its command.
 abbrev pub kindIn : Command → Kind

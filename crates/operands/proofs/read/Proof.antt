@@ -1,7 +1,7 @@
 -- `read`, by what came of the operands.
 use borrow.Author.Needs.{needs}
-use Rattle.items.proofs.operands.read.Statement.{statement}
-use Rattle.items.proofs.operands.read.Tie as tie
+use Rattle.operands.proofs.read.Statement.{statement}
+use Rattle.operands.proofs.read.Tie as tie
 
 returns : tie.Need-returns
 returns c = rw (c .before .transfer .given .1)

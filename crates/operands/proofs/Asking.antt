@@ -17,8 +17,8 @@ use Rattle.model.specs.Machine.{Action, Transfer, loads, stores, assigns, passe
 use Rattle.model.proofs.Laws.{ok-injective, bind-ok, required, decided}
 use Rattle.transitions.specs.declared.transition.Operands.{Operands}
 use Rattle.transitions.specs.Transitions.{operandsOf, commandOf}
-use Rattle.items.specs.Operands.{kindIn, transferBy, actionBy}
-use Rattle.items.proofs.Registers.{RegisterHeld}
+use Rattle.operands.specs.Operands.{kindIn, transferBy, actionBy}
+use Rattle.operands.proofs.Registers.{RegisterHeld}
 
 -- An operand that is tested, then used.
 bind-operand : {A B : Type 0} (t : Bool) (number place : ℕ) (v : A) (f : A → Result B) →

@@ -1,9 +1,9 @@
 -- `action_of`, command by command.
 use mathlib.Core.Path.{_∙_, ap}
-use Rattle.items.specs.Operands.{actionBy, reads, writes}
+use Rattle.operands.specs.Operands.{actionBy, reads, writes}
 use borrow.Author.Needs.{needs}
-use Rattle.items.proofs.operands.action_of.Statement.{statement}
-use Rattle.items.proofs.operands.action_of.Tie as tie
+use Rattle.operands.proofs.action_of.Statement.{statement}
+use Rattle.operands.proofs.action_of.Tie as tie
 
 returns : tie.Need-returns
 unfolding actionBy

@@ -1,7 +1,7 @@
 -- `assume`: the test is the definition's.
 use borrow.Author.Tests.{lt-ltb, le-ltb}
-use Rattle.items.proofs.operands.assume.Statement.{statement}
-use Rattle.items.proofs.operands.assume.Tie as tie
+use Rattle.operands.proofs.assume.Statement.{statement}
+use Rattle.operands.proofs.assume.Tie as tie
 
 returns : tie.Need-returns
 returns c = rw (lt-ltb _ _ (c .if1 .taken))

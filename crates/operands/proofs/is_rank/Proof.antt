@@ -1,7 +1,7 @@
 -- `is_rank`: both ends of the range in turn.
 use borrow.Author.Tests.{le-leb, lt-leb}
-use Rattle.items.proofs.operands.is_rank.Statement.{statement}
-use Rattle.items.proofs.operands.is_rank.Tie as tie
+use Rattle.operands.proofs.is_rank.Statement.{statement}
+use Rattle.operands.proofs.is_rank.Tie as tie
 
 returns : tie.Need-returns
 returns c = rw (lt-leb _ _ (c .if1 .taken))

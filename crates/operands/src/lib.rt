@@ -1,6 +1,7 @@
 // What a transition asks for by the values of its expressions: 8 for an operand outside its range, then 9 for an assumption that fails.
 use model::Address;
 use model::Header;
+use model::Kind;
 use model::Refusal;
 use model::refusals::ASSUME_FAILS;
 use model::refusals::OPERAND_RANGE;
@@ -8,7 +9,7 @@ use transitions::transition::Command;
 use transitions::transition::Operands;
 ghost use mathlib.Core.Path.{_≡_};
 ghost use lib.Dec.{ltb};
-ghost use Rattle.items.specs.Operands.{actionIn, askedIn, transferIn, ranged, transferBy, reads, writes, assumed, actionBy};
+ghost use Rattle.operands.specs.Operands.{kindIn, actionIn, askedIn, transferIn, ranged, transferBy, reads, writes, assumed, actionBy};
 ghost use Rattle.model.specs.Choice.{between};
 
 // What a command does once its operands are in their ranges.
@@ -164,5 +165,26 @@ pub fn action_of(command: Command, header: Header, rank: u16, at: usize) -> Aske
         Command::Read { operands } => read(transfer(operands, header, rank, at)),
         Command::Write { operands } => write(transfer(operands, header, rank, at)),
         Command::Bar => Asked::Does(Action::Meets),
+    }
+}
+
+// The kind of a transition, by its command.
+pub fn kind_of(command: Command) -> Kind
+    ensures { λ r. ⌜ r ≡ kindIn command ⌝ }
+{
+    match command {
+        Command::Load {
+            register: _,
+            cell: _,
+        } => Kind::Load,
+        Command::Store { cell: _, value: _ } => Kind::Store,
+        Command::Assign {
+            register: _,
+            value: _,
+        } => Kind::Assign,
+        Command::Assume { value: _ } => Kind::Assume,
+        Command::Read { operands: _ } => Kind::Read,
+        Command::Write { operands: _ } => Kind::Write,
+        Command::Bar => Kind::Bar,
     }
 }

@@ -1,0 +1,2 @@
+-- What a command asks for, by the definitions of `model`.
+pub mod Operands
