@@ -13,7 +13,7 @@ use Rattle.model.specs.Choice.{numbersFrom}
 use Rattle.model.specs.Checks.{forEachRank, rankByRank}
 use Rattle.model.proofs.Laws.{decided}
 use Rattle.lists.proofs.Forms.{fill-length}
-use Rattle.lines.specs.Texts.{written, Wrote}
+use Rattle.texts.specs.Texts.{written, Wrote}
 use Rattle.layout.specs.Laid.{Laid, laid, placed, put, layOut, Laying, LaysOut}
 
 layOut-append : (a b : List (List ℕ)) (s : Laid) → layOut (a ++ b) s ≡ layOut b (layOut a s)

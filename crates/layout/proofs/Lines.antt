@@ -13,10 +13,10 @@ use Rattle.model.specs.declared.Item.{Item}
 use Rattle.model.specs.Limits.{maxItems}
 use Rattle.model.specs.Choice.{numbersFrom}
 use Rattle.memory.specs.Tables.{Table, cellsSize, numberAt}
-use Rattle.lines.specs.Texts.{Wrote}
+use Rattle.texts.specs.Texts.{Wrote}
 use Rattle.verdicts.specs.Judged.{answerOf}
 use Rattle.lines.specs.Lines.{answerLine, groupEntry, cellEntry}
-use Rattle.lines.proofs.Texts.{wrote-all, fill-none}
+use Rattle.texts.proofs.Texts.{wrote-all, fill-none}
 use Rattle.first_items.specs.declared.First as First
 use Rattle.first_items.specs.declared.First.{First}
 use Rattle.first_items.specs.Firsts.{firstOf}

@@ -9,7 +9,7 @@ use borrow.Author.Tests.{le-leb}
 use Rattle.model.specs.Checks.{fill}
 use Rattle.model.specs.Listings.{join}
 use Rattle.lists.proofs.Forms.{fill-length}
-use Rattle.lines.specs.Texts.{written}
+use Rattle.texts.specs.Texts.{written}
 use Rattle.layout.specs.Laid.{Laid, laid, placed, put, layOut}
 
 pub laid-at : (lines : List (List ℕ)) (s : Laid) → layOut lines s .at ≡ s .at + length (join lines)

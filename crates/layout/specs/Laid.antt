@@ -5,7 +5,7 @@ use mathlib.Core.List.{List, [], _∷_, _++_}
 use lib.Dec.{leb}
 use lib.ListN.{length, take, drop}
 use Rattle.model.specs.Choice.{when}
-use Rattle.lines.specs.Texts.{written}
+use Rattle.texts.specs.Texts.{written}
 
 -- What the bytes hold, and where the next line goes.
 pub record Laid : Type 0 where

@@ -9,7 +9,7 @@ use model::Kind;
 use verdicts::answer_of;
 ghost use mathlib.Core.List.{[], _∷_};
 ghost use Prim.Native.Nat.{_≤_};
-ghost use Rattle.lines.specs.Texts.{Wrote};
+ghost use Rattle.texts.specs.Texts.{Wrote};
 ghost use Rattle.layout.specs.Laid.{laid, LaysOut};
 ghost use Rattle.layout.specs.Lines.{bytesOf, longest, farthest, Measures};
 

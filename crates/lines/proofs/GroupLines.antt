@@ -6,9 +6,9 @@ use native.Mathlib.Omega.{arith}
 use lib.ListN.{length, take, drop, length-append}
 use Rattle.model.specs.declared.Kind.{Kind}
 use Rattle.model.specs.Listings.{decimal, line, space, groupWord, kindWord}
-use Rattle.lines.specs.Texts.{Wrote}
+use Rattle.texts.specs.Texts.{Wrote}
+use Rattle.texts.proofs.Texts.{Grown, grown-first, grown-more, grown-wrote}
 use Rattle.lines.specs.Lines.{groupEntry}
-use Rattle.lines.proofs.Texts.{Grown, grown-first, grown-more, grown-wrote}
 
 -- What stands before the kind's word, and the line from there on.
 abbrev pub groupHead : ℕ → List ℕ

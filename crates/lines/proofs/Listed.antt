@@ -13,7 +13,7 @@ use Rattle.model.specs.ItemKinds.{isBar}
 use Rattle.model.specs.Replay.{Event}
 use Rattle.model.specs.Orders.{Verdict, ordered, cyclic}
 use Rattle.model.specs.Checks.{listed, answered}
-use Rattle.model.specs.Listings.{decimal, line, verdictWord, refusedLine, groupLine, cellLine, kindWord}
+use Rattle.model.specs.Listings.{decimal, line, verdictWord, refusedLine, groupLine, cellLine}
 use Rattle.lines.specs.Lines.{answerLine, groupEntry, cellEntry}
 use Rattle.model.proofs.Listings.{decimal-few, kind-short}
 use Rattle.lines.proofs.GroupLines.{group-length}

@@ -1,5 +1,5 @@
 -- A line of a word and numbers, number by number.
-use Prim.Native.Nat.{ℕ, suc, _+_, _-_, _*_, _^_, _≤_, _<_}
+use Prim.Native.Nat.{ℕ, _+_, _-_, _*_, _^_, _≤_, _<_}
 use mathlib.Core.Path.{_≡_, refl, sym, ap, _∙_}
 use mathlib.Core.List.{List, [], _∷_, _++_, map, append-assoc, append-nil}
 use native.Mathlib.Numerals.{add-one}
@@ -7,9 +7,9 @@ use native.Mathlib.Omega.{arith}
 use lib.ListN.{length, take, drop, getD, length-append, take-append-drop}
 use lib.Seq.{take-suc, take-all}
 use Rattle.model.specs.Listings.{decimal, line, space, lineFeed}
-use Rattle.lines.specs.Texts.{Wrote}
+use Rattle.texts.specs.Texts.{Wrote}
 use Rattle.model.proofs.Listings.{decimal-few}
-use Rattle.lines.proofs.Texts.{wrote-length, Grown, grown-first, grown-here, grown-since, grown-more, grown-wrote}
+use Rattle.texts.proofs.Texts.{wrote-length, Grown, grown-first, grown-here, grown-since, grown-more, grown-wrote}
 
 -- Numbers with a space before each.
 unfoldable pub spaced : List ℕ → List ℕ

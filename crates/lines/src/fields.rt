@@ -1,14 +1,14 @@
 // The fields of a line: numbers with a space before each, and whole lines that are a word and numbers.
-use crate::decimals::decimal_length;
-use crate::decimals::write_decimal;
-use crate::words::write_word;
 use model::Kind;
+use texts::decimals::decimal_length;
+use texts::decimals::write_decimal;
+use texts::words::write_word;
 ghost use mathlib.Core.Path.{_≡_};
 ghost use mathlib.Core.List.{_∷_, map};
 ghost use Prim.Native.Nat.{_≤_};
 ghost use lib.ListN.{length};
 ghost use Rattle.model.specs.Listings.{decimal, kindWord, line, space};
-ghost use Rattle.lines.specs.Texts.{Wrote};
+ghost use Rattle.texts.specs.Texts.{Wrote};
 
 // A space and a number, where they fit.
 pub fn write_number(text: &mut [u8], number: usize) -> usize

@@ -1,21 +1,19 @@
 // The lines of a listing, each written into the rest of lent bytes. A writer answers how many bytes it wrote: its whole line, or none where that does
 // not fit, and then the bytes are untouched. The length of a line can be asked for before it is written.
-pub mod decimals;
 mod fields;
-pub mod words;
 
-use crate::decimals::decimal_length;
 use crate::fields::kind_length;
 use crate::fields::line_length;
 use crate::fields::write_kind_line;
 use crate::fields::write_line;
 use crate::fields::write_number;
-use crate::words::write_word;
 use model::Answer;
 use model::Kind;
+use texts::decimals::decimal_length;
+use texts::words::write_word;
 ghost use mathlib.Core.Path.{_≡_};
 ghost use lib.ListN.{length};
-ghost use Rattle.lines.specs.Texts.{Wrote};
+ghost use Rattle.texts.specs.Texts.{Wrote};
 ghost use Rattle.lines.specs.Lines.{answerLine, cellEntry, groupEntry};
 
 // A listing's first line, by the check's answer: `order` or `ring` with the count, or `refused` with number and place.

@@ -19,7 +19,7 @@ use Rattle.memory.specs.Tables.{Table}
 use Rattle.verdicts.specs.declared.Judged.{Judged}
 use Rattle.verdicts.specs.Judged.{judgedAs, answerOf}
 use Rattle.verdicts.proofs.Answers.{answer-is}
-use Rattle.lines.specs.Texts.{written, Wrote}
+use Rattle.texts.specs.Texts.{written, Wrote}
 use Rattle.lines.specs.Lines.{answerLine}
 use Rattle.first_items.specs.Firsts.{firstItems}
 use Rattle.layout.specs.Laid.{Laid, laid, layOut}

@@ -1,7 +1,7 @@
 -- `lines::write_group` meets its contract: the word, the number, a space and the line of the kind, each behind the last.
 use native.Mathlib.Omega.{arith}
 use borrow.Author.Needs.{needs}
-use Rattle.lines.proofs.Texts.{wrote-none, wrote-inside, grown-inside}
+use Rattle.texts.proofs.Texts.{wrote-none, wrote-inside, grown-inside}
 use Rattle.lines.proofs.GroupLines.{Room, with-word, with-number, with-head, with-line}
 use Rattle.lines.proofs.write_group.Statement.{statement}
 use Rattle.lines.proofs.write_group.Tie as tie

@@ -3,7 +3,7 @@ use Prim.Native.Nat.{_-_}
 use native.Mathlib.Omega.{arith}
 use lib.ListN.{length}
 use borrow.Author.Needs.{needs}
-use Rattle.lines.proofs.Texts.{wrote-none, wrote-length, wrote-inside, grown-inside}
+use Rattle.texts.proofs.Texts.{wrote-none, wrote-length, wrote-inside, grown-inside}
 use Rattle.lines.proofs.Spaced.{Lining, lining-none, lining-more, lining-all}
 use Rattle.lines.proofs.fields.write_line.Statement.{statement}
 use Rattle.lines.proofs.fields.write_line.Tie as tie

@@ -2,7 +2,7 @@
 use mathlib.Core.Path.{refl}
 use native.Mathlib.Omega.{arith}
 use borrow.Author.Needs.{needs}
-use Rattle.lines.proofs.Texts.{wrote-none, wrote-inside, grown-first, grown-more, grown-wrote, grown-inside}
+use Rattle.texts.proofs.Texts.{wrote-none, wrote-inside, grown-first, grown-more, grown-wrote, grown-inside}
 use Rattle.lines.proofs.fields.write_number.Statement.{statement}
 use Rattle.lines.proofs.fields.write_number.Tie as tie
 

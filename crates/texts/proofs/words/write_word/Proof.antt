@@ -1,13 +1,13 @@
--- `lines::words::write_word` meets its contract. The invariant: so many of the word's bytes are pasted.
+-- `texts::words::write_word` meets its contract. The invariant: so many of the word's bytes are pasted.
 use Prim.Native.Nat.{_-_}
 use mathlib.Core.Path.{refl, _∙_}
 use native.Mathlib.Omega.{arith}
 use lib.ListN.{length}
 use borrow.Author.Needs.{needs}
 use Rattle.lists.proofs.Pasted.{Pasting, pasting-none, pasting-more, pasting-all}
-use Rattle.lines.proofs.Texts.{wrote-none, wrote-all, paste-front}
-use Rattle.lines.proofs.words.write_word.Statement.{statement}
-use Rattle.lines.proofs.words.write_word.Tie as tie
+use Rattle.texts.proofs.Texts.{wrote-none, wrote-all, paste-front}
+use Rattle.texts.proofs.words.write_word.Statement.{statement}
+use Rattle.texts.proofs.words.write_word.Tie as tie
 
 abbrev Inv-loop : tie.InvT-loop
 Inv-loop text₀ word done₀ text done = Pasting text₀ 0 word (length word) done text

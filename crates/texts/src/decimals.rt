@@ -2,7 +2,7 @@
 ghost use mathlib.Core.Path.{_≡_};
 ghost use lib.ListN.{length};
 ghost use Rattle.model.specs.Listings.{decimal};
-ghost use Rattle.lines.specs.Texts.{Wrote};
+ghost use Rattle.texts.specs.Texts.{Wrote};
 
 // The character of 0; the others follow it.
 const ZERO: u8 = 48;

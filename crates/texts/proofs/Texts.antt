@@ -11,7 +11,7 @@ use borrow.Author.Tests.{le-leb, lt-leb, leb-true}
 use Rattle.model.specs.Checks.{fill}
 use Rattle.model.proofs.Laws.{when-true, when-false, decided}
 use Rattle.lists.proofs.Forms.{fill-length}
-use Rattle.lines.specs.Texts.{written, writtenLength, Wrote}
+use Rattle.texts.specs.Texts.{written, writtenLength, Wrote}
 
 -- What does not fit is not written; what fits is, and the answer is its length.
 pub wrote-none : (new text : List ℕ) → length text < length new → Wrote new text text 0

@@ -1,5 +1,5 @@
 // Fixed words of a listing, copied to the front of a text.
-ghost use Rattle.lines.specs.Texts.{Wrote};
+ghost use Rattle.texts.specs.Texts.{Wrote};
 
 // A word's bytes, where they fit.
 pub fn write_word(text: &mut [u8], word: &[u8]) -> usize

@@ -1,12 +1,12 @@
--- `lines::decimals::write_decimal` meets its contract. The invariant: the text with the digits that are left over it is the text with all of them.
+-- `texts::decimals::write_decimal` meets its contract. The invariant: the text with the digits that are left over it is the text with all of them.
 use native.Mathlib.Omega.{arith}
 use lib.ListN.{length-set}
 use borrow.Author.Needs.{needs}
 use Rattle.model.proofs.Listings.{decimal-some}
-use Rattle.lines.proofs.Texts.{wrote-none}
-use Rattle.lines.proofs.Digiting.{Digiting, digiting-none, digiting-more, digiting-all, place-inside, place-left}
-use Rattle.lines.proofs.decimals.write_decimal.Statement.{statement}
-use Rattle.lines.proofs.decimals.write_decimal.Tie as tie
+use Rattle.texts.proofs.Texts.{wrote-none}
+use Rattle.texts.proofs.Digiting.{Digiting, digiting-none, digiting-more, digiting-all, place-inside, place-left}
+use Rattle.texts.proofs.decimals.write_decimal.Statement.{statement}
+use Rattle.texts.proofs.decimals.write_decimal.Tie as tie
 
 abbrev Inv-loop : tie.InvT-loop
 Inv-loop text₀ number count at₀ left₀ text at left = Digiting text₀ number text at left

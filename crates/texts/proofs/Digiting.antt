@@ -6,9 +6,9 @@ use native.Mathlib.Omega.{arith}
 use lib.ListN.{length, set, length-set}
 use Rattle.model.specs.Checks.{fill}
 use Rattle.model.specs.Listings.{decimal}
-use Rattle.lines.specs.Texts.{Wrote}
+use Rattle.texts.specs.Texts.{Wrote}
 use Rattle.model.proofs.Listings.{decimal-digit, decimal-more, digit-length, more-length, decimal-some}
-use Rattle.lines.proofs.Texts.{wrote-all, fill-last, fill-none}
+use Rattle.texts.proofs.Texts.{wrote-all, fill-last, fill-none}
 
 -- The text with the digits that are left over it is the text with all of them.
 pub record Digiting (found : List ℕ) (number : ℕ) (text : List ℕ) (at left : ℕ) : Type 0 where

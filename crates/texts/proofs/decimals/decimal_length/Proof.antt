@@ -1,13 +1,13 @@
--- `lines::decimals::decimal_length` meets its contract. The invariant: the digits counted, and those that are left, one of them counted already, are
+-- `texts::decimals::decimal_length` meets its contract. The invariant: the digits counted, and those that are left, one of them counted already, are
 -- all of them.
 use Prim.Native.Nat.{_+_}
-use mathlib.Core.Path.{_≡_, refl}
+use mathlib.Core.Path.{_≡_}
 use native.Mathlib.Omega.{arith}
 use lib.ListN.{length}
 use Rattle.model.specs.Listings.{decimal}
 use Rattle.model.proofs.Listings.{digit-length, more-length, decimal-few}
-use Rattle.lines.proofs.decimals.decimal_length.Statement.{statement}
-use Rattle.lines.proofs.decimals.decimal_length.Tie as tie
+use Rattle.texts.proofs.decimals.decimal_length.Statement.{statement}
+use Rattle.texts.proofs.decimals.decimal_length.Tie as tie
 
 abbrev Inv-loop : tie.InvT-loop
 Inv-loop number count₀ rest₀ count rest = count + length (decimal rest) ≡ length (decimal number) + 1
