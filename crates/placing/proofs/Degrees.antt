@@ -12,7 +12,7 @@ use Rattle.model.specs.HappensBefore.{Edge}
 use Rattle.model.specs.Orders.{hasEdgeInto, notFrom}
 use Rattle.model.proofs.Laws.{decided}
 use Rattle.ordering.proofs.Lists.{_∈_, here, there}
-use Rattle.placing.specs.Placed.{inDegree}
+use Rattle.indexing.specs.Degrees.{inDegree}
 use Rattle.placing.proofs.Selecting.{select-same, select-both, count-parts}
 
 -- An edge leads into a group exactly if the count is not 0.

@@ -17,7 +17,7 @@ use Rattle.model.proofs.Selections.{select-keeps, select-within}
 use Rattle.graph.proofs.Edges.{AllAmong}
 use Rattle.ordering.proofs.Lists.{_∈_, numbersFrom-length, in-numbersFrom, numbersFrom-bounds, numbersFrom-distinct}
 use Rattle.ordering.proofs.Placing.{Placed, place-induction, place-placed, none-free}
-use Rattle.placing.specs.Placed.{inDegree}
+use Rattle.indexing.specs.Degrees.{inDegree}
 use Rattle.placing.proofs.Selecting.{select-same}
 use Rattle.placing.proofs.Degrees.{edgesOut, but, edges-but, into-counted, into-none}
 use Rattle.placing.proofs.Lowest.{without-but}

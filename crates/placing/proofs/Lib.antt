@@ -1,10 +1,6 @@
 pub mod Selecting
 pub mod Degrees
 pub mod Lowest
-pub mod ByGroup
-pub mod Indexes
-pub mod Lists
-pub mod Ready
 pub mod Stands
 pub mod Releases
 pub mod Simulation

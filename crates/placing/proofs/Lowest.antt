@@ -13,7 +13,7 @@ use Rattle.model.specs.Orders.{firstFree, without}
 use Rattle.model.proofs.Laws.{decided}
 use Rattle.model.proofs.Selections.{select-yes, select-no}
 use Rattle.ordering.proofs.Lists.{numbersFrom-bounds}
-use Rattle.placing.specs.Placed.{inDegree}
+use Rattle.indexing.specs.Degrees.{inDegree}
 use Rattle.placing.proofs.Selecting.{select-same}
 use Rattle.placing.proofs.Degrees.{into-counted, but}
 

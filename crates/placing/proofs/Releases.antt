@@ -10,8 +10,9 @@ use Rattle.model.specs.Choice.{select}
 use Rattle.memory.specs.Tables.{Table}
 use Rattle.graph.specs.Edges.{targetAt}
 use Rattle.ordering.proofs.Lists.{_∈_, here, there}
+use Rattle.indexing.specs.Indexed.{countInto}
 use Rattle.placing.specs.Releases.{Counts, releasedEdges}
-use Rattle.placing.specs.Standing.{Stands, countInto}
+use Rattle.placing.specs.Standing.{Stands}
 use Rattle.placing.proofs.Stands.{stands-same, stands-released}
 
 -- The first arrow of a list counts for the group that it leads to.

@@ -19,17 +19,18 @@ use Rattle.memory.specs.Tables.{Table}
 use Rattle.memory.proofs.Filled.{fill-more}
 use Rattle.chains.specs.Chains.{Listed}
 use Rattle.bitmap.specs.Bitmaps.{IsLowest, lowestIn, lowestTaken}
+use Rattle.indexing.specs.Degrees.{inDegree, inDegrees}
+use Rattle.indexing.specs.Indexed.{graphTo, numbersOut, countInto}
+use Rattle.indexing.proofs.Lists.{list-counts, list-within}
 use Rattle.placing.specs.declared.Placed.{Placed}
-use Rattle.placing.specs.Placed.{inDegree, inDegrees}
 use Rattle.placing.specs.Releases.{Counts, counts, releasedEdges, headAt, edgesFromGroup}
 use Rattle.placing.specs.Turns.{placed, noted, takeNext, placeOn}
-use Rattle.placing.specs.Standing.{Stands, graphTo, numbersOut, countInto}
+use Rattle.placing.specs.Standing.{Stands}
 use Rattle.bitmap.proofs.Holding.{lowest-none, lowest-some}
 use Rattle.placing.proofs.Degrees.{edgesOut, but, degree-parts, edges-but, edges-of-one}
 use Rattle.placing.proofs.Lowest.{first-none, first-lowest, without-but}
 use Rattle.placing.proofs.Stands.{stands-same, stands-taken, taken-free}
 use Rattle.placing.proofs.Releases.{stands-released-edges}
-use Rattle.placing.proofs.Lists.{list-counts, list-within}
 
 -- A group behind the first so many of a list.
 noted-fills : (front old : List ℕ) (g : ℕ) → length old ≡ maxItems → length front < maxItems →

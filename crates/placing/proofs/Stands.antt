@@ -13,10 +13,11 @@ use Rattle.model.specs.Choice.{when}
 use Rattle.model.proofs.Laws.{decided, and-true}
 use Rattle.bitmap.specs.Bitmaps.{Holds, inserted, lowestIn, lowestTaken}
 use Rattle.bitmap.proofs.Holding.{same-holds, insert-holds, lowest-some, taken-holds}
+use Rattle.indexing.specs.Degrees.{byGroup}
+use Rattle.indexing.proofs.ByGroup.{group-at, group-set, group-same}
 use Rattle.placing.specs.Releases.{Counts, counts, released}
-use Rattle.placing.specs.Standing.{byGroup, Stands}
+use Rattle.placing.specs.Standing.{Stands}
 use Rattle.placing.proofs.Degrees.{but}
-use Rattle.placing.proofs.ByGroup.{group-at, group-set, group-same}
 
 -- Counts that are the same.
 pub stands-same : {left : ℕ → Bool} {degree degree′ : ℕ → ℕ} {c : Counts} → ((g : ℕ) → degree g ≡ degree′ g) → Stands left degree c →

@@ -13,22 +13,24 @@ use Rattle.model.specs.Choice.{select, numbersFrom}
 use Rattle.model.specs.Checks.{fill}
 use Rattle.model.specs.HappensBefore.{Edge}
 use Rattle.model.specs.Orders.{Placing, place}
-use Rattle.model.proofs.Laws.{decided, and-true}
-use Rattle.model.proofs.Selections.{select-all, select-within}
+use Rattle.model.proofs.Laws.{decided}
+use Rattle.model.proofs.Selections.{select-all}
 use Rattle.memory.specs.Tables.{Table}
 use Rattle.bitmap.specs.Bitmaps.{emptyBitmap}
 use Rattle.graph.specs.Edges.{groupsIn, among, graphIn}
 use Rattle.graph.proofs.Edges.{selected-among, groups-bound}
 use Rattle.ordering.proofs.Lists.{_∈_, at-position, numbersFrom-bounds}
+use Rattle.indexing.specs.Degrees.{inDegree, inDegrees}
+use Rattle.indexing.specs.Indexes.{Index, emptyIndex, indexed, readiedAll}
+use Rattle.indexing.specs.Indexed.{Indexed, graphTo}
+use Rattle.indexing.proofs.Ready.{ready-holds}
+use Rattle.indexing.proofs.Indexes.{all-indexed}
 use Rattle.placing.specs.declared.Placed.{Placed}
-use Rattle.placing.specs.Placed.{inDegree, inDegrees, placedAs}
-use Rattle.placing.specs.Indexes.{Index, emptyIndex, indexed, readiedAll}
+use Rattle.placing.specs.Placed.{placedAs}
 use Rattle.placing.specs.Releases.{counts}
 use Rattle.placing.specs.Turns.{placeOn, placedOn}
-use Rattle.placing.specs.Standing.{Stands, Indexed, graphTo}
+use Rattle.placing.specs.Standing.{Stands}
 use Rattle.placing.proofs.Degrees.{edgesOut, into-none}
-use Rattle.placing.proofs.Ready.{ready-holds}
-use Rattle.placing.proofs.Indexes.{all-indexed}
 use Rattle.placing.proofs.Simulation.{simulates}
 
 -- A list with nothing put in is as it was.

@@ -1,5 +1,4 @@
 pub mod Placed
-pub mod Indexes
 pub mod Releases
 pub mod Turns
 pub mod Standing

@@ -1,53 +1,14 @@
 -- What the arrays stand for: the groups left, and for each group how many arrows lead into it.
-use Prim.Native.Nat.{ℕ, zero, suc, _<_}
+use Prim.Native.Nat.{ℕ, _<_}
 use mathlib.Core.Path.{_≡_}
 use mathlib.Core.Bool.{Bool, true, _&&_}
-use mathlib.Core.List.{List, [], _∷_, map}
 use lib.Dec.{eqb}
-use lib.ListN.{length}
-use Rattle.model.specs.Limits.{maxItems, maxEdges}
-use Rattle.model.specs.Choice.{when, select, numbersFrom}
-use Rattle.model.specs.HappensBefore.{Edge}
-use Rattle.memory.specs.Tables.{Table}
-use Rattle.chains.specs.Chains.{Listed}
 use Rattle.bitmap.specs.Bitmaps.{Holds}
-use Rattle.graph.specs.Edges.{edgeAt, sourceAt, targetAt, among}
-use Rattle.placing.specs.Placed.{inDegrees}
-use Rattle.placing.specs.Indexes.{Index}
+use Rattle.indexing.specs.Degrees.{byGroup}
 use Rattle.placing.specs.Releases.{Counts}
-
--- A number for each group.
-abbrev pub byGroup : (ℕ → ℕ) → List ℕ
-byGroup f = map f (numbersFrom 0 maxItems)
 
 -- The counts are a function's, those groups left are ready whose count is 0, and a group that waits is one of those left.
 pub record Stands (left : ℕ → Bool) (degree : ℕ → ℕ) (c : Counts) : Type 0 where
   pub waits : c .waiting ≡ byGroup degree
   pub holds : Holds (c .ready) (λ g. left g && eqb (degree g) 0)
   pub pending : (g : ℕ) → 0 < degree g → left g ≡ true
-
--- The first arrows of a table that are between groups, and the numbers of those that come from one group, the last first.
-abbrev pub graphTo : (groups : ℕ) → Table → (count : ℕ) → List Edge
-graphTo groups table count = select (among groups) (map (edgeAt table) (numbersFrom 0 count))
-
-unfoldable pub numbersOut : (groups : ℕ) → Table → (count group : ℕ) → List ℕ
-numbersOut groups table zero group = []
-numbersOut groups table (suc count) group =
-    when (among groups (edgeAt table count))
-    (λ _.
-    when (eqb group (sourceAt table count))
-    (λ _. count ∷ numbersOut groups table count (sourceAt table count))
-    (λ _. numbersOut groups table count group))
-    (λ _. numbersOut groups table count group)
-
--- How many of these arrows lead into a group.
-unfoldable pub countInto : Table → (edges : List ℕ) → (group : ℕ) → ℕ
-unfolding select
-countInto table edges group = length (select (λ edge. eqb (targetAt table edge) group) edges)
-
--- The first arrows are noted: in the lists of the groups that they come from, and in the counts of those that they lead to.
-pub record Indexed (groups : ℕ) (table : Table) (count : ℕ) (i : Index) : Type 0 where
-  pub heads-long : length (i .heads) ≡ maxItems
-  pub links-long : length (i .links) ≡ maxEdges
-  pub lists : Listed (i .heads) (i .links) count (numbersOut groups table count)
-  pub counted : i .waiting ≡ inDegrees (graphTo groups table count)

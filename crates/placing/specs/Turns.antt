@@ -8,8 +8,8 @@ use Rattle.model.specs.Limits.{maxItems}
 use Rattle.model.specs.Choice.{when, numbersFrom}
 use Rattle.memory.specs.Tables.{Table}
 use Rattle.bitmap.specs.Bitmaps.{emptyBitmap, lowestIn, lowestTaken}
+use Rattle.indexing.specs.Indexes.{Index, emptyIndex, indexed, readiedAll}
 use Rattle.placing.specs.declared.Placed.{Placed}
-use Rattle.placing.specs.Indexes.{Index, emptyIndex, indexed, readiedAll}
 use Rattle.placing.specs.Releases.{Counts, counts, releasedEdges, edgesFromGroup}
 
 -- What is placed so far.

@@ -1,26 +1,22 @@
 // "The order: each time, of the unplaced groups whose arrows in all come from placed ones, take the lowest number", until none can be taken. Each
 // group and each arrow is looked at a constant number of times.
-pub mod indexing;
 mod releasing;
 mod turns;
 
-use crate::indexing::find_ready;
-use crate::indexing::index_edges;
 use crate::turns::place_ready;
 use bitmap::BITMAP;
 use graph::EDGES;
 use graph::Edges;
 use graph::Groups;
 use graph::groups_in;
+use indexing::find_ready;
+use indexing::index_edges;
 use model::ITEMS;
 ghost use mathlib.Core.Path.{_≡_};
 ghost use Rattle.model.specs.Choice.{numbersFrom};
 ghost use Rattle.model.specs.Orders as orders;
 ghost use Rattle.graph.specs.Edges.{groupsIn, graphIn};
 ghost use Rattle.placing.specs.Placed.{placedAs};
-
-// For each arrow the one below it in its list.
-pub type Links = [u16; EDGES];
 
 // How many groups are placed, the groups in their order, and for each group how many arrows from unplaced groups lead into it.
 pub struct Placed {

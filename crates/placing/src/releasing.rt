@@ -1,11 +1,11 @@
 // A placed group releases the groups that its arrows lead to.
-use crate::Links;
 use bitmap::Bitmap;
 use bitmap::insert;
 use chains::older;
 use graph::Edges;
 use graph::Groups;
 use graph::target;
+use indexing::Links;
 use model::ITEMS;
 ghost use mathlib.Core.Path.{_≡_};
 ghost use Prim.Native.Nat.{_-_, _<_};

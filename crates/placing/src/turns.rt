@@ -1,11 +1,11 @@
 // The turns of the placing.
-use crate::Links;
 use crate::releasing::release;
 use bitmap::Bitmap;
 use bitmap::Lowest;
 use bitmap::take_lowest;
 use graph::Edges;
 use graph::Groups;
+use indexing::Links;
 use model::ITEMS;
 ghost use mathlib.Core.Path.{_≡_};
 ghost use Rattle.placing.specs.Releases.{counts};

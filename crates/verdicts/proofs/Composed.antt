@@ -15,8 +15,9 @@ use Rattle.memory.proofs.Filled.{numbers-at}
 use Rattle.ordering.proofs.Lists.{numbersFrom-bounds}
 use Rattle.graph.specs.Edges.{among, groupsIn}
 use Rattle.graph.proofs.Edges.{AllAmong, selected-among, groups-bound}
+use Rattle.indexing.specs.Degrees.{inDegree, inDegrees}
 use Rattle.placing.specs.declared.Placed.{Placed}
-use Rattle.placing.specs.Placed.{inDegree, inDegrees, placedAs}
+use Rattle.placing.specs.Placed.{placedAs}
 use Rattle.placing.proofs.Left.{allPlaced, left-waiting, left-edges, none-left, one-left}
 use Rattle.placing.proofs.Selecting.{select-same}
 use Rattle.rings.specs.declared.Found.{Found}

@@ -1,8 +1,8 @@
--- `placing::indexing::index_edge` meets its contract: the tests are the definition's.
-use Rattle.placing.proofs.Cases.{indexed-between, indexed-other-end, indexed-other-start, indexed-outside}
+-- `indexing::index_edge` meets its contract: the tests are the definition's.
+use Rattle.indexing.proofs.Cases.{indexed-between, indexed-other-end, indexed-other-start, indexed-outside}
 use borrow.Author.Needs.{needs}
-use Rattle.placing.proofs.indexing.index_edge.Statement.{statement}
-use Rattle.placing.proofs.indexing.index_edge.Tie as tie
+use Rattle.indexing.proofs.index_edge.Statement.{statement}
+use Rattle.indexing.proofs.index_edge.Tie as tie
 
 returns : tie.Need-returns
 returns c =

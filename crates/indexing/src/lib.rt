@@ -1,5 +1,4 @@
 // What the placing looks up: the arrows that come from each group, as lists, and how many lead into each.
-use crate::Links;
 use bitmap::Bitmap;
 use bitmap::insert;
 use chains::push;
@@ -12,7 +11,10 @@ use graph::target;
 use model::ITEMS;
 ghost use mathlib.Core.Path.{_≡_};
 ghost use Rattle.model.specs.Choice.{numbersFrom};
-ghost use Rattle.placing.specs.Indexes.{index, raised, indexedEdge, indexed, readied, readiedAll};
+ghost use Rattle.indexing.specs.Indexes.{index, raised, indexedEdge, indexed, readied, readiedAll};
+
+// For each arrow the one below it in its list.
+pub type Links = [u16; EDGES];
 
 // One arrow more leads into a group. No group has more of them than there are arrows, so the count fits.
 fn raise(waiting: &mut Groups, group: usize)

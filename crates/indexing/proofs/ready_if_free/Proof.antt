@@ -1,9 +1,9 @@
--- `placing::indexing::ready_if_free` meets its contract: the tests are the definition's.
+-- `indexing::ready_if_free` meets its contract: the tests are the definition's.
 use mathlib.Core.Path.{_∙_}
-use Rattle.placing.proofs.Cases.{readied-free, readied-waits, readied-outside}
+use Rattle.indexing.proofs.Cases.{readied-free, readied-waits, readied-outside}
 use borrow.Author.Needs.{needs}
-use Rattle.placing.proofs.indexing.ready_if_free.Statement.{statement}
-use Rattle.placing.proofs.indexing.ready_if_free.Tie as tie
+use Rattle.indexing.proofs.ready_if_free.Statement.{statement}
+use Rattle.indexing.proofs.ready_if_free.Tie as tie
 
 returns : tie.Need-returns
 returns c =

@@ -11,9 +11,9 @@ use Rattle.model.specs.Choice.{numbersFrom}
 use Rattle.model.proofs.Laws.{decided}
 use Rattle.bitmap.specs.Bitmaps.{Holds, emptyBitmap}
 use Rattle.bitmap.proofs.Holding.{empty-holds, same-holds, insert-holds}
-use Rattle.placing.specs.Indexes.{readied, readiedAll}
-use Rattle.placing.specs.Standing.{byGroup}
-use Rattle.placing.proofs.ByGroup.{group-at}
+use Rattle.indexing.specs.Indexes.{readied, readiedAll}
+use Rattle.indexing.specs.Degrees.{byGroup}
+use Rattle.indexing.proofs.ByGroup.{group-at}
 
 module _ (degree : ℕ → ℕ) where
   -- Of the groups below a number, those that no arrow leads into.

@@ -10,7 +10,7 @@ use Rattle.model.specs.Limits.{maxItems}
 use Rattle.model.specs.Choice.{numbersFrom}
 use Rattle.model.proofs.Laws.{decided}
 use Rattle.memory.proofs.Filled.{numbers-length, numbers-at, list-of}
-use Rattle.placing.specs.Standing.{byGroup}
+use Rattle.indexing.specs.Degrees.{byGroup}
 
 pub group-length : (f : ℕ → ℕ) → length (byGroup f) ≡ maxItems
 group-length f = length-map (numbersFrom 0 maxItems) f ∙ numbers-length 0 maxItems

@@ -18,11 +18,11 @@ use Rattle.chains.specs.Chains.{Listed, headsAfter, linksAfter}
 use Rattle.chains.proofs.Cases.{pushed-inside}
 use Rattle.chains.proofs.Chains.{empty-listed, listed-later, push-listed}
 use Rattle.graph.specs.Edges.{edgeAt, sourceAt, targetAt, among}
-use Rattle.placing.specs.Placed.{inDegree, inDegrees}
-use Rattle.placing.specs.Indexes.{Index, index, emptyIndex, raised, indexedEdge, indexedEdges}
-use Rattle.placing.specs.Standing.{byGroup, graphTo, numbersOut, Indexed}
-use Rattle.placing.proofs.Selecting.{count-within, numbers-last}
-use Rattle.placing.proofs.ByGroup.{group-at, group-set}
+use Rattle.indexing.specs.Degrees.{inDegree, inDegrees, byGroup}
+use Rattle.indexing.specs.Indexes.{Index, index, emptyIndex, raised, indexedEdge, indexedEdges}
+use Rattle.indexing.specs.Indexed.{graphTo, numbersOut, Indexed}
+use Rattle.indexing.proofs.Selecting.{count-within, numbers-last}
+use Rattle.indexing.proofs.ByGroup.{group-at, group-set}
 
 -- One arrow more into a group.
 raised-is : (degree degree′ : ℕ → ℕ) (t : ℕ) → t < maxItems → degree t < maxEdges → degree′ t ≡ suc (degree t) →

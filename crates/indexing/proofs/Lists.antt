@@ -13,9 +13,9 @@ use Rattle.model.proofs.Selections.{select-own, select-other, count-own, count-
 use Rattle.memory.specs.Tables.{Table}
 use Rattle.graph.specs.Edges.{edgeAt, sourceAt, targetAt, among}
 use Rattle.ordering.proofs.Lists.{_∈_}
-use Rattle.placing.specs.Placed.{inDegree}
-use Rattle.placing.specs.Standing.{graphTo, numbersOut, countInto}
-use Rattle.placing.proofs.Indexes.{graph-more, graph-kept}
+use Rattle.indexing.specs.Degrees.{inDegree}
+use Rattle.indexing.specs.Indexed.{graphTo, numbersOut, countInto}
+use Rattle.indexing.proofs.Indexes.{graph-more, graph-kept}
 
 module _ (n : ℕ) (table : Table) (g h : ℕ) where
   abbrev fromOne : List Edge → List Edge

@@ -1,8 +1,8 @@
--- `placing::indexing::raise` meets its contract: the tests are the definition's.
-use Rattle.placing.proofs.Cases.{raised-inside, raised-full, raised-outside}
+-- `indexing::raise` meets its contract: the tests are the definition's.
+use Rattle.indexing.proofs.Cases.{raised-inside, raised-full, raised-outside}
 use borrow.Author.Needs.{needs}
-use Rattle.placing.proofs.indexing.raise.Statement.{statement}
-use Rattle.placing.proofs.indexing.raise.Tie as tie
+use Rattle.indexing.proofs.raise.Statement.{statement}
+use Rattle.indexing.proofs.raise.Tie as tie
 
 returns : tie.Need-returns
 returns c = raised-inside _ _ (c .before .before .if1 .taken) (c .if2 .taken)

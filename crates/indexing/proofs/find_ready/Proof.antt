@@ -1,13 +1,13 @@
--- `placing::indexing::find_ready`: what is left of the groups, from where the search stands, is what all of them are from the start.
+-- `indexing::find_ready`: what is left of the groups, from where the search stands, is what all of them are from the start.
 use Prim.Native.Nat.{_-_}
 use mathlib.Core.Path.{_≡_, sym, _∙_}
 use native.Mathlib.Nat.{sub-zero}
 use borrow.Author.Needs.{needs}
 use Rattle.model.specs.Choice.{numbersFrom}
-use Rattle.placing.specs.Indexes.{readiedAll}
-use Rattle.placing.proofs.Cases.{ready-turn, ready-done}
-use Rattle.placing.proofs.indexing.find_ready.Statement.{statement}
-use Rattle.placing.proofs.indexing.find_ready.Tie as tie
+use Rattle.indexing.specs.Indexes.{readiedAll}
+use Rattle.indexing.proofs.Cases.{ready-turn, ready-done}
+use Rattle.indexing.proofs.find_ready.Statement.{statement}
+use Rattle.indexing.proofs.find_ready.Tie as tie
 
 abbrev Inv-loop : tie.InvT-loop
 Inv-loop groups waiting ready₀ group₀ ready group =

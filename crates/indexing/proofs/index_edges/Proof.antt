@@ -1,13 +1,13 @@
--- `placing::indexing::index_edges`: what is left of the arrows, from where the loop stands, is what all of them are from the start.
+-- `indexing::index_edges`: what is left of the arrows, from where the loop stands, is what all of them are from the start.
 use Prim.Native.Nat.{_-_}
 use mathlib.Core.Path.{_≡_, sym, _∙_}
 use native.Mathlib.Nat.{sub-zero}
 use borrow.Author.Needs.{needs}
 use Rattle.model.specs.Choice.{numbersFrom}
-use Rattle.placing.specs.Indexes.{index, indexed, indexedEdges}
-use Rattle.placing.proofs.Cases.{edges-turn, edges-done}
-use Rattle.placing.proofs.indexing.index_edges.Statement.{statement}
-use Rattle.placing.proofs.indexing.index_edges.Tie as tie
+use Rattle.indexing.specs.Indexes.{index, indexed, indexedEdges}
+use Rattle.indexing.proofs.Cases.{edges-turn, edges-done}
+use Rattle.indexing.proofs.index_edges.Statement.{statement}
+use Rattle.indexing.proofs.index_edges.Tie as tie
 
 abbrev Inv-loop : tie.InvT-loop
 Inv-loop groups edges count heads₀ links₀ waiting₀ last edge₀ heads links waiting edge =
