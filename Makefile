@@ -38,7 +38,7 @@ OTHER_PARTS := second harness first recorder-test list_run-test
 
 # How many crates of one level, or edits, rt proves at a time. It waits for the last of them, so more than the machine has processors leave less of it
 # idle.
-export RT_JOBS ?= 4
+export RT_JOBS ?= 8
 
 .PHONY: test sample bench second harness definitions edits first programs library install recorder recorder-test recorder-thread header
 .PHONY: list_run list_run-test
