@@ -1,10 +1,11 @@
--- The verdict on a map and a kind's number is document 01's, for every pair of numbers, and so for each of the 65,536 pairs of bytes: the verdict
--- that is computed is document 01's (`form-is`), and there is no other (`form-only`).
--- A kind is found under its number and no other is; and a kind's case lists exactly the maps that the relation gives it.
+-- The verdict on a map and a kind's number is document 01's, for every pair of numbers, and so for each of the 65,536 pairs of bytes
+-- (`forms-agree`): the verdict that is computed is document 01's, and document 01 has no other. A kind is found under its number and no other is;
+-- and a kind's case lists exactly the maps that the relation gives it.
 use Prim.Native.Nat.{ℕ}
-use mathlib.Core.Path.{_≡_, refl, sym, ap, _∙_}
+use mathlib.Core.Path.{_≡_, refl, sym, ap, subst, _∙_}
 use mathlib.Core.Bool.{Bool, true, false, true≢false}
 use mathlib.Core.List.{List}
+use mathlib.Core.Logic.{_↔_}
 use mathlib.Core.Option.{Option, some, none, Option·none-ne-some}
 use lib.Dec.{eqb}
 use borrow.Author.Tests.{eqb-true}
@@ -98,6 +99,9 @@ unfolding itemForm formOf
 form-only (good kind same has) = rw (← same, kind-found kind, map-listed has)
 form-only {number = number} (unknown-kind no-kind) = rw (none-found number (lookup number itemKinds) refl no-kind)
 form-only {map} (wrong-map kind same has-not) = rw (← same, kind-found kind, unlisted map kind has-not)
+
+pub forms-agree : (map number : ℕ) (form : ItemForm) → (itemForm map number ≡ form) ↔ FormIs map number form
+forms-agree map number form = ((λ e. subst (FormIs map number) e (form-is map number)), (λ v. form-only v))
 
 -- A test that is computed for each kind with each of its maps, of a map that a kind has.
 pub each-map : (test : Kind → ℕ → Bool) → everyRow (λ _ k. every (test k) (itemMaps k)) itemKinds ≡ true → {kind : Kind} {map : ℕ} →

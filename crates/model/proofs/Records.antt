@@ -74,9 +74,10 @@ module _ (header : Header) (bytes : List ℕ) (at : ℕ) (there : at + 1 < lengt
   refused-by UnknownKind h = inl (refl, sym (same-place h))
   refused-by WrongMap h = inr (refl, sym (same-place h))
 
-  told-by : {place : ℕ} → readItem header bytes at ≡ refuse recordForm place →
+  -- So 6 comes from one of the two verdicts, at its byte.
+  pub form-refused : {place : ℕ} → readItem header bytes at ≡ refuse recordForm place →
       (FormAt bytes at UnknownKind × (place ≡ at + 1)) ⊎ (FormAt bytes at WrongMap × (place ≡ at))
-  told-by h =
+  form-refused h =
       let is : FormAt bytes at (itemForm (getD bytes at 0) (getD bytes (at + 1) 0)) = form-is (getD bytes at 0) (getD bytes (at + 1) 0) in
       ⊎-elim
       (λ u. inl (subst (FormAt bytes at) (u .0) is, u .1))
@@ -86,9 +87,9 @@ module _ (header : Header) (bytes : List ℕ) (at : ℕ) (there : at + 1 < lengt
   -- 6 at the kind's byte, exactly for an unknown kind.
   pub kind-refused : (readItem header bytes at ≡ refuse recordForm (at + 1)) ↔ FormAt bytes at UnknownKind
   unfolding judgedItemForm
-  kind-refused = ((λ h. ⊎-elim (λ u. u .0) (λ w. absurd (omega (arith, w .1))) (told-by h)), (λ v. read-by v))
+  kind-refused = ((λ h. ⊎-elim (λ u. u .0) (λ w. absurd (omega (arith, w .1))) (form-refused h)), (λ v. read-by v))
 
   -- 6 at the map's byte, exactly for a map that is not among its kind's.
   pub map-refused : (readItem header bytes at ≡ refuse recordForm at) ↔ FormAt bytes at WrongMap
   unfolding judgedItemForm
-  map-refused = ((λ h. ⊎-elim (λ u. absurd (omega (arith, u .1))) (λ w. w .0) (told-by h)), (λ v. read-by v))
+  map-refused = ((λ h. ⊎-elim (λ u. absurd (omega (arith, u .1))) (λ w. w .0) (form-refused h)), (λ v. read-by v))

@@ -1,5 +1,5 @@
 -- The form of an item: its map byte against its kind byte. Nothing else compares a map with a kind. What document 01 says stands first, as a
--- relation; then the verdict as it is computed. They agree on every pair of numbers (`form-is` and `form-only` in proofs/ItemForms.antt).
+-- relation; then the verdict as it is computed. They agree on every pair of numbers (`forms-agree` in proofs/ItemForms.antt).
 use Prim.Native.Nat.{ℕ, _+_}
 use mathlib.Core.Path.{_≡_}
 use mathlib.Core.List.{List, [], _∷_}
