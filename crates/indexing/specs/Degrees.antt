@@ -17,4 +17,4 @@ unfolding select
 inDegree edges g = length (select (λ e. eqb (e .to) g) edges)
 
 abbrev pub inDegrees : List Edge → List ℕ
-inDegrees edges = map (inDegree edges) (numbersFrom 0 maxItems)
+inDegrees edges = byGroup (inDegree edges)

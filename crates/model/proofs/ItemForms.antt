@@ -13,27 +13,16 @@ use Rattle.model.specs.declared.Kind.{Kind}
 use Rattle.model.specs.declared.Kind.the-variants.{Load, Store, Assign, Assume, Read, Write, Popa, Popb, Bar}
 use Rattle.model.specs.declared.ItemForm.{ItemForm}
 use Rattle.model.specs.Choice.{lookup, member}
-use Rattle.model.specs.ItemKinds.{kindNumber}
-use Rattle.model.specs.ItemForms.{HasMap, FormIs, good, unknown-kind, wrong-map, itemKinds, itemMaps, formOf, itemForm, judgedItemForm}
+use Rattle.model.specs.ItemKinds.{kindNumber, itemKinds}
+use Rattle.model.specs.ItemForms.{HasMap, FormIs, good, unknown-kind, wrong-map, itemMaps, formOf, itemForm, judgedItemForm}
 use Rattle.model.specs.Replay.{every}
 use Rattle.model.specs.Traces.{Each, all, one}
 use Rattle.model.proofs.Laws.{decided, refused≢ok}
+use Rattle.model.proofs.ItemKinds.{kind-found}
 use Rattle.model.proofs.Bytes.{Finds, finds-pure}
 use Rattle.model.proofs.Tables.{everyRow, looked-up, one-of, every-one}
 
--- A kind stands under its own number.
-kind-found : (kind : Kind) → lookup (kindNumber kind) itemKinds ≡ some kind
-unfolding lookup itemKinds
-kind-found Load = refl
-kind-found Store = refl
-kind-found Assign = refl
-kind-found Assume = refl
-kind-found Read = refl
-kind-found Write = refl
-kind-found Popa = refl
-kind-found Popb = refl
-kind-found Bar = refl
-
+-- What is found under a number has that number.
 found-number : (number : ℕ) {kind : Kind} → lookup number itemKinds ≡ some kind → kindNumber kind ≡ number
 unfolding itemKinds everyRow
 found-number number {kind} h =

@@ -1,36 +1,33 @@
 -- Kinds of items: no two share a number, a command's kind is no pop's, and only the command bar is a bar.
 use mathlib.Core.Path.{_≡_, refl, sym, ap, subst, _∙_}
 use mathlib.Core.Bool.{true, false, true≢false, false≢true}
-use mathlib.Core.List.{List, [], _∷_}
-use lib.ListN.{getD}
+use mathlib.Core.Option.{some, Option·some-injective}
 use borrow.Author.Tests.{eqb-true, eq-eqb}
 use Rattle.model.specs.declared.Kind.{Kind}
 use Rattle.model.specs.declared.Kind.the-variants.{Load, Store, Assign, Assume, Read, Write, Popa, Popb, Bar}
-use Rattle.model.specs.Choice.{when}
-use Rattle.model.specs.ItemKinds.{kindNumber, sameKind, isBar, isTransfer, Part, command, fetch, delivery, partOf, isCommandPart, isCommandKind}
+use Rattle.model.specs.Choice.{when, lookup}
+use Rattle.model.specs.ItemKinds.{kindNumber, itemKinds, sameKind, isBar, isTransfer, Part, command, fetch, delivery, partOf, isCommandPart, isCommandKind}
 use Rattle.model.specs.Programs.{Command, load, store, assign, assume, read, write, bar, kindOf}
 use Rattle.model.proofs.Laws.{decided, or-true, when-true, when-false}
 
--- The kinds under their numbers; there is no kind 0.
-numbered : List Kind
-numbered = Load ∷ Load ∷ Store ∷ Assign ∷ Assume ∷ Read ∷ Write ∷ Popa ∷ Popb ∷ Bar ∷ []
-
-numbered-kind : (k : Kind) → getD numbered (kindNumber k) Load ≡ k
-unfolding numbered
-numbered-kind Load = refl
-numbered-kind Store = refl
-numbered-kind Assign = refl
-numbered-kind Assume = refl
-numbered-kind Read = refl
-numbered-kind Write = refl
-numbered-kind Popa = refl
-numbered-kind Popb = refl
-numbered-kind Bar = refl
+-- A kind stands under its own number.
+pub kind-found : (k : Kind) → lookup (kindNumber k) itemKinds ≡ some k
+unfolding lookup itemKinds
+kind-found Load = refl
+kind-found Store = refl
+kind-found Assign = refl
+kind-found Assume = refl
+kind-found Read = refl
+kind-found Write = refl
+kind-found Popa = refl
+kind-found Popb = refl
+kind-found Bar = refl
 
 -- No two kinds have one number.
 pub sameKind-true : (k l : Kind) → sameKind k l ≡ true → k ≡ l
 sameKind-true k l h =
-    sym (numbered-kind k) ∙ ap (λ n. getD numbered n Load) (eqb-true (kindNumber k) (kindNumber l) h) ∙ numbered-kind l
+    Option·some-injective k l
+    (sym (kind-found k) ∙ ap (λ n. lookup n itemKinds) (eqb-true (kindNumber k) (kindNumber l) h) ∙ kind-found l)
 
 pub true-sameKind : (k l : Kind) → k ≡ l → sameKind k l ≡ true
 true-sameKind k l h = eq-eqb (kindNumber k) (kindNumber l) (ap kindNumber h)

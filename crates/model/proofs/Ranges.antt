@@ -14,9 +14,9 @@ use Rattle.model.specs.Limits.{maxRanks, maxCells, maxRegisters, maxQueu
 use Rattle.model.specs.Refusals.{ok, programLength, programRange, recordLength, recordRange}
 use Rattle.model.specs.Choice.{between, bit}
 use Rattle.model.specs.Bytes.{AreBytes, here, byte, word, judged, optional, times}
-use Rattle.model.specs.ItemKinds.{hasPlace, Part, command, fetch, delivery, partOf}
+use Rattle.model.specs.ItemKinds.{itemKinds, hasPlace, Part, command, fetch, delivery, partOf}
 use Rattle.model.specs.Programs.{Program, HeaderFits, headerNumber, readHeader, readTransition, programReader, readProgram}
-use Rattle.model.specs.ItemForms.{HasMap, itemKinds, itemMaps}
+use Rattle.model.specs.ItemForms.{HasMap, itemMaps}
 use Rattle.model.specs.Records.{field, givenValue, itemFields, readItem, recordReader, readRecord}
 use Rattle.model.specs.Replay.{every}
 use Rattle.model.specs.Traces.{Each, all, one, ChosenIn, GivenIn, InRecord}

@@ -11,7 +11,7 @@ use Rattle.model.specs.declared.ItemForm.the-variants.{Good, UnknownKind
 use Rattle.model.specs.Refusals.{recordForm}
 use Rattle.model.specs.Choice.{when, lookup, member}
 use Rattle.model.specs.Bytes.{Reader, pure, fault}
-use Rattle.model.specs.ItemKinds.{kindNumber}
+use Rattle.model.specs.ItemKinds.{kindNumber, itemKinds}
 
 -- "Maps: load and store 27, or 59 with a value; assign, assume, read, write and bar 3; popa (kind 7) and popb (kind 8) 29, or 61 with a value."
 pub data HasMap : Kind → ℕ → Type 0 where
@@ -34,11 +34,6 @@ pub data FormIs (map number : ℕ) : ItemForm → Type 0 where
   good : (kind : Kind) → kindNumber kind ≡ number → HasMap kind map → FormIs map number (Good kind)
   unknown-kind : ((kind : Kind) → ¬ (kindNumber kind ≡ number)) → FormIs map number UnknownKind
   wrong-map : (kind : Kind) → kindNumber kind ≡ number → ¬ (HasMap kind map) → FormIs map number WrongMap
-
--- The kinds under their numbers.
-unfoldable pub itemKinds : List (ℕ × Kind)
-itemKinds =
-    (1, Load) ∷ (2, Store) ∷ (3, Assign) ∷ (4, Assume) ∷ (5, Read) ∷ (6, Write) ∷ (7, Popa) ∷ (8, Popb) ∷ (9, Bar) ∷ []
 
 -- A case for each kind, with its maps written out.
 unfoldable pub itemMaps : Kind → List ℕ

@@ -1,6 +1,7 @@
 -- Kinds of items (document 01's table of kinds, with popa and popb): their numbers, and what the rules ask of a kind.
 use Prim.Native.Nat.{ℕ}
 use mathlib.Core.Bool.{Bool, true, false, _||_}
+use mathlib.Core.List.{List, [], _∷_}
 use lib.Dec.{eqb}
 use Rattle.model.specs.declared.Kind.{Kind}
 use Rattle.model.specs.declared.Kind.the-variants.{Load, Store, Assign, Assume, Read, Write, Popa, Popb, Bar}
@@ -17,6 +18,11 @@ kindNumber Write = 6
 kindNumber Popa = 7
 kindNumber Popb = 8
 kindNumber Bar = 9
+
+-- The kinds under these numbers; any other number is of an unknown kind.
+unfoldable pub itemKinds : List (ℕ × Kind)
+itemKinds =
+    (1, Load) ∷ (2, Store) ∷ (3, Assign) ∷ (4, Assume) ∷ (5, Read) ∷ (6, Write) ∷ (7, Popa) ∷ (8, Popb) ∷ (9, Bar) ∷ []
 
 abbrev pub sameKind : Kind → Kind → Bool
 sameKind k l = eqb (kindNumber k) (kindNumber l)

@@ -22,7 +22,8 @@ use Rattle.model.specs.Choice.{between, bit, lookup}
 use Rattle.model.specs.Bytes.{Reader, byte, word, judged}
 use Rattle.model.specs.Expressions.{Token, constantToken, registerToken, ownRankToken, rankCountToken, operatorToken, tokens, Counted, constant, noTokenLeft, onToken, afterToken, readExpression, expression}
 use Rattle.model.specs.Programs.{readFields, CommandForm, forms, judgedForm, readTransition, headerNumber, readHeader, programReader, readProgram}
-use Rattle.model.specs.ItemForms.{HasMap, FormIs, good, unknown-kind, wrong-map, itemKinds, itemMaps, judgedItemForm}
+use Rattle.model.specs.ItemKinds.{itemKinds}
+use Rattle.model.specs.ItemForms.{HasMap, FormIs, good, unknown-kind, wrong-map, itemMaps, judgedItemForm}
 use Rattle.model.specs.Records.{field, givenValue, itemFields, readItem, recordReader, readRecord}
 use Rattle.model.specs.Traces.{all, one}
 use Rattle.model.specs.Machine.{Start, zeroStart}

@@ -2,7 +2,8 @@
 use borrow.Author.Tests.{ne-eqb}
 use Rattle.model.specs.declared.Kind.the-variants.{Load, Store, Assign, Assume, Read, Write, Popa, Popb, Bar}
 use Rattle.model.specs.Choice.{lookup}
-use Rattle.model.specs.ItemForms.{itemKinds, itemMaps, formOf, itemForm}
+use Rattle.model.specs.ItemKinds.{itemKinds}
+use Rattle.model.specs.ItemForms.{itemMaps, formOf, itemForm}
 use Rattle.item_forms.proofs.Forms.{listed, unlisted}
 use Rattle.item_forms.proofs.item_form.Statement.{statement}
 use Rattle.item_forms.proofs.item_form.Tie as tie
