@@ -1,3 +1,4 @@
+-- The code against the definitions on arrays (`Cases`), and these against what they stand for.
 pub mod Selecting
 pub mod ByGroup
 pub mod Indexes

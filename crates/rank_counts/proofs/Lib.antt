@@ -1,3 +1,4 @@
+-- Bits of a map in turn, counts of ranks, and the map of the ranks that have one.
 pub mod Numbers
 pub mod RankMaps
 pub mod Rows

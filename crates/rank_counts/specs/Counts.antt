@@ -7,6 +7,7 @@ use Rattle.model.specs.Choice.{numbersFrom}
 use Rattle.model.specs.Slips.{rankMap}
 use Rattle.rank_counts.specs.Maps.{rowsOf}
 
+-- No rank has one.
 abbrev pub noCounts : List ℕ
 noCounts = replicate maxRanks 0
 

@@ -1,1 +1,2 @@
+-- Bytes written to the front of a text.
 pub mod Texts
