@@ -15,7 +15,8 @@ enum kind {
     KIND_BAR = 9
 };
 
-/* The most items that a record may have, and the bytes of its longest item. */
+/* The most items that a record may have, and the bytes of the longest item of these runs, whose
+ * transitions are few. */
 enum { MOST_ITEMS = 1024, MOST_ITEM_BYTES = 9 };
 
 /* A cell of some rank. */

@@ -8,7 +8,7 @@ use Rattle.model.specs.Limits.{maxItems}
 use Rattle.model.specs.Refusals.{Result, ok, refused}
 use Rattle.model.specs.Bytes.{AreBytes}
 use Rattle.model.specs.Machine.{Start, zeroStart}
-use Rattle.model.specs.Checks.{Verdicts, Outcome, fill, entryBytes, outcome, outcomeBytes, checkResult, check, checkBytes}
+use Rattle.model.specs.Checks.{Verdicts, Outcome, fill, entryBytes, outcome, outcomeBytes, checkResult, checkIn, checkBytesIn}
 use Rattle.model.proofs.Laws.{when-true}
 use Rattle.memory.specs.Tables.{Table, cellsSize, zeros}
 use Rattle.memory.specs.Copies.{startIn}
@@ -56,7 +56,7 @@ resultFrom start form program recorded order cells = checkResult start program r
 
 result-defined : (form : Form) (program recorded order cells : List ℕ) →
     outcomeOf form order cells (resultFrom zeroStart form program recorded order cells) ≡ definition form program recorded order cells
-unfolding check checkBytes capacity
+unfolding checkIn checkBytesIn capacity
 result-defined numbers program recorded order cells = refl
 result-defined bytes program recorded order cells = refl
 

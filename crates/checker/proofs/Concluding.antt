@@ -14,7 +14,7 @@ use Rattle.model.specs.declared.Refusal.{Refusal}
 use Rattle.model.specs.Refusals.{Result, ok, refused, orderTooShort, memoryTooShort}
 use Rattle.model.specs.Machine.{Start}
 use Rattle.model.specs.Orders.{Verdict}
-use Rattle.model.specs.Checks.{Accepted, accept, verdictOn, lastCells, listed, Verdicts, checkResult}
+use Rattle.model.specs.Checks.{Accepted, accept, verdictOn, lastCells, listed, Verdicts, checkResultIn, checkResult}
 use Rattle.model.proofs.Laws.{decided}
 use Rattle.record_facts.proofs.Bounds.{accepted-bounds}
 use Rattle.memory.specs.Tables.{Table, cellsSize, numberAt}
@@ -66,7 +66,7 @@ module _ (start : Start) (program recorded : List ℕ) (room : Room) where
       })
 
   pub replay-refused : {r : Refusal} → accept start program recorded ≡ refused r → result ≡ refused r
-  unfolding checkResult
+  unfolding checkResultIn
   replay-refused h = rw h
 
   -- An accepted record.
@@ -81,15 +81,15 @@ module _ (start : Start) (program recorded : List ℕ) (room : Room) where
     cellsFit = leb (cellsOf a) (room .cells)
 
     order-short : orderFits ≡ false → result ≡ refused (record { number = orderTooShort; place = groupsOf a })
-    unfolding checkResult
+    unfolding checkResultIn
     order-short t = rw (accepted, t)
 
     cells-short : orderFits ≡ true → cellsFit ≡ false → result ≡ refused (record { number = memoryTooShort; place = cellsOf a })
-    unfolding checkResult
+    unfolding checkResultIn
     cells-short t u = rw (accepted, t, u)
 
     answerable : orderFits ≡ true → cellsFit ≡ true → result ≡ ok (record { verdict = verdictOn (a .run); cells = lastCells a })
-    unfolding checkResult
+    unfolding checkResultIn
     answerable t u = rw (accepted, t, u)
 
     abbrev last : Table

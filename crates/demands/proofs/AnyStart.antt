@@ -14,7 +14,7 @@ use Rattle.model.specs.Replay.{Event, replay}
 use Rattle.model.specs.HappensBefore.{At, HappensBefore, edgesOf}
 use Rattle.model.specs.Traces.{Each, InRecord}
 use Rattle.model.specs.Orders.{ordered, cyclic}
-use Rattle.model.specs.Checks.{accept, verdictOn, Accepted}
+use Rattle.model.specs.Checks.{acceptIn, accept, verdictOn, Accepted}
 use Rattle.model.proofs.Laws.{bind-ok, ok-injective}
 use Rattle.model.proofs.Ranges.{read-in-record}
 use Rattle.acceptance.proofs.Acceptance.{record-accepted-iff-run}
@@ -38,7 +38,7 @@ pub record Parts (start : Start) (program recorded : List ℕ) (a : Accepted) : 
 
 parts : (start : Start) (program recorded : List ℕ) (a : Accepted) → AreBytes recorded → accept start program recorded ≡ ok a →
     Parts start program recorded a
-unfolding accept
+unfolding acceptIn
 parts start program recorded a bytes accepted =
     let (P, program-read, h₁) = bind-ok (readProgram program) _ accepted in
     let (items, record-read, h₂) = bind-ok (readRecord (P .header) recorded) _ h₁ in
@@ -56,7 +56,7 @@ parts start program recorded a bytes accepted =
 -- state.
 pub accepted-iff-run : (start : Start) (program recorded : List ℕ) (P : Program) (last : Bare) → AreBytes recorded →
     AcceptedTo start program recorded P last ↔ AreRun start program recorded P last
-unfolding accept
+unfolding acceptIn
 accepted-iff-run start program recorded P last bytes = (sound, complete)
   where
     sound : AcceptedTo start program recorded P last → AreRun start program recorded P last

@@ -5,7 +5,7 @@ use mathlib.Core.Path.{_≡_, refl, subst}
 use mathlib.Core.List.{List}
 use Rattle.model.specs.Refusals.{Result, ok, refused}
 use Rattle.model.specs.Bytes.{AreBytes}
-use Rattle.model.specs.Checks.{Verdicts, outcome, check, outcomeBytes, checkBytes}
+use Rattle.model.specs.Checks.{Verdicts, outcome, checkIn, check, outcomeBytes, checkBytesIn, checkBytes}
 use Rattle.demands.specs.Entries.{numbers, bytes}
 use Rattle.demands.specs.Demands.{MeetsDemands}
 use Rattle.demands.proofs.Entries.{capacity}
@@ -25,14 +25,14 @@ bytes-written order cells (refused r) = refl
 module _ (program recorded order cells : List ℕ) (are-bytes : AreBytes recorded) where
   -- The check with lists of 16-bit numbers.
   pub check-meets-demands : MeetsDemands numbers program recorded order cells (check program recorded order cells)
-  unfolding check capacity
+  unfolding checkIn capacity
   check-meets-demands =
       subst (MeetsDemands numbers program recorded order cells) (numbers-written order cells (resultIn numbers program recorded order cells))
       (outcome-meets numbers program recorded order cells are-bytes)
 
   -- The check with lists of bytes.
   pub checkBytes-meets-demands : MeetsDemands bytes program recorded order cells (checkBytes program recorded order cells)
-  unfolding checkBytes capacity
+  unfolding checkBytesIn capacity
   checkBytes-meets-demands =
       subst (MeetsDemands bytes program recorded order cells) (bytes-written order cells (resultIn bytes program recorded order cells))
       (outcome-meets bytes program recorded order cells are-bytes)

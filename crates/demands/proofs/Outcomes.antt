@@ -15,7 +15,7 @@ use Rattle.model.specs.Bytes.{AreBytes}
 use Rattle.model.specs.Machine.{zeroStart}
 use Rattle.model.specs.Rules.{Rank, Cell}
 use Rattle.model.specs.Orders.{Verdict, ordered, cyclic}
-use Rattle.model.specs.Checks.{accept, verdictOn, lastCells, Accepted, fill, Outcome, listed, answered, Verdicts, checkResult}
+use Rattle.model.specs.Checks.{accept, verdictOn, lastCells, Accepted, fill, Outcome, listed, answered, Verdicts, checkResultIn, checkResult}
 use Rattle.model.proofs.Laws.{bind-ok, required, ok-injective, refused≢ok, between-true}
 use Rattle.ordering.proofs.Orders.{TopologicalOrder, Cycle, cycle-length}
 use Rattle.serializability.specs.Claim.{Serializable}
@@ -73,14 +73,14 @@ module _ (form : Form) (program recorded order cells : List ℕ) (bytes : AreByt
 
   -- The result is a verdict exactly if the record is accepted and both lists are long enough.
   given-result : (a : Accepted) → Given a → result ≡ ok (verdictsOf a)
-  unfolding checkResult
+  unfolding checkResultIn
   given-result a given =
       let o : groupsOf a ≤ capacity form order = rw (entries-length form order) at (given .order-fits) in
       let c : cellsOf a ≤ capacity form cells = rw (entries-length form cells) at (given .cells-fit) in
       rw (given .accepted, le-leb (groupsOf a) (capacity form order) o, le-leb (cellsOf a) (capacity form cells) c)
 
   result-given : (v : Verdicts) → result ≡ ok v → (a : Accepted) × Given a × (verdictsOf a ≡ v)
-  unfolding checkResult
+  unfolding checkResultIn
   result-given v h =
       let (a, accepted, h₁) = bind-ok (accept zeroStart program recorded) _ h in
       let (o, h₂) = required (leb (groupsOf a) (capacity form order)) orderTooShort (groupsOf a) _ h₁ in

@@ -10,7 +10,7 @@ use Rattle.model.specs.declared.Header.{Header}
 use Rattle.model.specs.declared.Item.{Item}
 use Rattle.model.specs.declared.ItemForm.{ItemForm}
 use Rattle.model.specs.declared.ItemForm.the-variants.{Good, UnknownKind, WrongMap}
-use Rattle.model.specs.Limits.{maxTokens, maxItems}
+use Rattle.model.specs.Limits.{maxTokens, shortTransitions, maxTransitions, longCount, maxItems}
 use Rattle.model.specs.Refusals.{programLength, programRange, programForm, recordLength, recordRange, recordForm, wrongTransition, operandRange}
 use Rattle.model.specs.Refusals.{assumeFails, emptyQueue, accessDiffers, barrierRow, queuesLeft, orderTooShort, memoryTooShort}
 use Rattle.model.specs.Choice.{between, bit, lookup}
@@ -19,13 +19,13 @@ use Rattle.model.specs.ItemKinds.{sameKind, Part, command, fetch, delivery, par
 use Rattle.model.specs.Expressions.{Expression, constant, Token, constantToken, registerToken, ownRankToken, rankCountToken, operatorToken, tokens}
 use Rattle.model.specs.Expressions.{Counted, noTokenLeft, afterToken, onToken, readExpression, expression}
 use Rattle.model.specs.Programs.{Program, Transition, Command, load, store, assign, assume, read, write, bar, kindOf, CommandForm, forms, judgedForm}
-use Rattle.model.specs.Programs.{headerNumber, readHeader, readFields, readTransition, programReader, readProgram}
+use Rattle.model.specs.Programs.{headerNumber, countByte, transitionCount, readHeaderIn, readHeader, readFields, readTransition, programReaderIn, readProgramIn, readProgram}
 use Rattle.model.specs.ItemForms.{itemForm, judgedItemForm}
-use Rattle.model.specs.Records.{readItem, recordReader, readRecord}
+use Rattle.model.specs.Records.{readItemIn, readItem, recordReaderIn, readRecordIn, readRecord}
 use Rattle.model.specs.Machine.{Start, Request, Delivery, valueOf, operand, cellOperand, transfer, action}
 use Rattle.model.specs.Replay.{Origin, Replay, Taken, rowAllows, agreesWith, agreed, takeTransition, takeFetch, takeDelivery, takePart, takeItem}
 use Rattle.model.specs.Replay.{afterCommand, afterFetch, afterDelivery, oldest, takeItems, begin, quiet, atEnd, replay}
-use Rattle.model.specs.Checks.{accept, checkResult}
+use Rattle.model.specs.Checks.{acceptIn, checkResultIn, checkResult}
 use Rattle.model.proofs.Laws.{decided}
 use Rattle.model.proofs.Faults.{Tabled, ok-tabled, refuse-tabled, bind-tabled, require-tabled, whole-tabled}
 use Rattle.model.proofs.Faults.{Faults, pure-faults, here-faults, fault-faults, bind-faults, byte-faults, word-faults, judged-faults}
@@ -105,19 +105,26 @@ number-faults : (low high : ℕ) → Faults CheckRow (headerNumber low high)
 unfolding headerNumber
 number-faults low high = judged-faults (between low high) programRange refl (byte-faults programLength refl)
 
+count-faults : (most : ℕ) → Faults CheckRow (transitionCount most)
+unfolding transitionCount
+count-faults most =
+    bind-faults (judged-faults (countByte most) programRange refl (byte-faults programLength refl)) λ count.
+    optional-faults (eqb count longCount) count
+    (judged-faults (between (shortTransitions + 1) most) programRange refl (word-faults programLength refl))
+
 header-faults : Faults CheckRow readHeader
-unfolding readHeader
+unfolding readHeaderIn
 header-faults =
     bind-faults (number-faults _ _) λ ranks.
     bind-faults (number-faults _ _) λ cells.
     bind-faults (number-faults _ _) λ registers.
     bind-faults (number-faults _ _) λ queues.
     bind-faults (number-faults _ _) λ states.
-    bind-faults (number-faults _ _) λ transitions.
+    bind-faults (count-faults maxTransitions) λ transitions.
     pure-faults _
 
 program-tabled : (bytes : List ℕ) → Tabled CheckRow (readProgram bytes)
-unfolding readProgram programReader
+unfolding readProgramIn programReaderIn
 program-tabled bytes =
     whole-tabled programLength bytes refl
     (bind-faults header-faults λ header.
@@ -132,7 +139,7 @@ item-form-faults at UnknownKind = fault-faults recordForm (at + 1) refl
 item-form-faults at WrongMap = fault-faults recordForm at refl
 
 item-faults : (header : Header) → Faults CheckRow (readItem header)
-unfolding readItem
+unfolding readItemIn
 item-faults header =
     bind-faults here-faults λ at.
     bind-faults (byte-faults recordLength refl) λ map.
@@ -141,7 +148,7 @@ item-faults header =
     item-fields-fault refl refl header map kind
 
 record-tabled : (header : Header) (bytes : List ℕ) → Tabled CheckRow (readRecord header bytes)
-unfolding readRecord recordReader
+unfolding readRecordIn recordReaderIn
 record-tabled header bytes =
     whole-tabled recordLength bytes refl
     (bind-faults (judged-faults (λ n. leb n maxItems) recordRange refl (word-faults recordLength refl)) λ count.
@@ -230,7 +237,7 @@ module _ (P : Program) where
 -- The whole check.
 pub check-tabled : (start : Start) (program recorded : List ℕ) (orderLength cellsLength : ℕ) →
     Tabled CheckRow (checkResult start program recorded orderLength cellsLength)
-unfolding checkResult accept
+unfolding checkResultIn acceptIn
 check-tabled start program recorded orderLength cellsLength =
     bind-tabled
     (bind-tabled (program-tabled program) λ P.

@@ -43,12 +43,13 @@ pub judged-read : (test : ℕ → Bool) (number : ℕ) (read : Reader ℕ) (byte
     x ≡ fieldOf (read bytes at) → y ≡ judgedField test number at x → y ≡ fieldOf (judged test number read bytes at)
 judged-read test number read bytes at p q = q ∙ ap (judgedField test number at) p ∙ judged-field test number read bytes at
 
--- A field that is there only where its map bit stands: without the bit it is 0 and takes no byte, with it the field is what was read.
-module _ (read : Reader ℕ) (bytes : List ℕ) (at : ℕ) {present : Bool} where
-  pub absent-field : present ≡ false → Read 0 at ≡ fieldOf (optional present 0 read bytes at)
+-- A field that is there only where its map bit stands: without the bit it is what stands in for it and takes no byte, with it the field is what was
+-- read.
+module _ (absent : ℕ) (read : Reader ℕ) (bytes : List ℕ) (at : ℕ) {present : Bool} where
+  pub absent-field : present ≡ false → Read absent at ≡ fieldOf (optional present absent read bytes at)
   absent-field h = rw h
 
-  pub present-field : {x : Field} → present ≡ true → x ≡ fieldOf (read bytes at) → x ≡ fieldOf (optional present 0 read bytes at)
+  pub present-field : {x : Field} → present ≡ true → x ≡ fieldOf (read bytes at) → x ≡ fieldOf (optional present absent read bytes at)
   present-field h p = rw h p
 
 module _ {B C : Type 0} (answer : Result B → C) (m : Result (Found ℕ)) (rest : Found ℕ → Result B) {x : Field} (p : x ≡ fieldOf m) where

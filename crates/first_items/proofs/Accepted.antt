@@ -15,7 +15,7 @@ use Rattle.model.specs.Programs.{Program, readProgram}
 use Rattle.model.specs.Records.{readRecord}
 use Rattle.model.specs.Machine.{Start}
 use Rattle.model.specs.Replay.{Event, Replay, Taken, Replayed, takeItem, takeItems, begin, quiet, atEnd, replay}
-use Rattle.model.specs.Checks.{Accepted, accept}
+use Rattle.model.specs.Checks.{Accepted, acceptIn, accept}
 use Rattle.model.proofs.Laws.{bind-ok, required, ok-injective}
 use Rattle.model.proofs.Replay.{ItemTaken, commands, fetches, delivers, item-taken}
 use Rattle.memory.specs.Tables.{zeros}
@@ -72,7 +72,7 @@ run-items P start items h =
 pub accepted-firsts : (start : Start) (program recorded : List ℕ) (a : Accepted) → accept start program recorded ≡ ok a → (g : ℕ) → g < maxItems →
     let h = a .program .header in
     firstOf h recorded (firstItems h recorded (trailOf (a .run .events)) (length (a .run .events))) g ≡ firstIn g 0 (a .run .events)
-unfolding accept
+unfolding acceptIn
 accepted-firsts start program recorded a h g row =
     let few = accepted-bounds start program recorded a h .few in
     let (P, read, h₁) = bind-ok (readProgram program) _ h in

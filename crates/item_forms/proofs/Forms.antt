@@ -10,9 +10,10 @@ use Rattle.model.specs.declared.ItemForm.the-variants.{Good, WrongMap}
 use Rattle.model.specs.declared.Kind.{Kind}
 use Rattle.model.specs.Choice.{member}
 use Rattle.model.specs.ItemKinds.{kindNumber}
-use Rattle.model.specs.ItemForms.{good, wrong-map, itemMaps, itemForm}
+use Rattle.model.specs.Formats.{itemMaps}
+use Rattle.model.specs.ItemForms.{good, wrong-map, itemForm}
 use Rattle.model.proofs.Laws.{decided}
-use Rattle.model.proofs.ItemForms.{map-listed, listed-map, form-only}
+use Rattle.model.proofs.ItemForms.{today-maps, form-only}
 
 -- A map is one of some, as an arm says it.
 abbrev pub Among : (map : ℕ) → List ℕ → Type 0
@@ -36,8 +37,10 @@ not-among map (a ∷ b ∷ maps) n = rw (ne-eqb map a (λ p. n (inl p))) (not-am
 -- The verdict on a kind that the number is of.
 module _ (kind : Kind) (map : ℕ) {number : ℕ} (same : number ≡ kindNumber kind) where
   pub listed : Among map (itemMaps kind) → Good kind ≡ itemForm map number
-  listed h = sym (form-only (good kind (sym same) (listed-map kind map (among map (itemMaps kind) h))))
+  listed h = sym (form-only today-maps (good kind (sym same) (today-maps .only kind map (among map (itemMaps kind) h))))
 
   pub unlisted : (Among map (itemMaps kind) → ⊥) → WrongMap ≡ itemForm map number
   unlisted n =
-      sym (form-only (wrong-map kind (sym same) (λ has. true≢false (sym (map-listed has) ∙ not-among map (itemMaps kind) n))))
+      sym
+      (form-only today-maps
+      (wrong-map kind (sym same) (λ has. true≢false (sym (today-maps .listed has) ∙ not-among map (itemMaps kind) n))))

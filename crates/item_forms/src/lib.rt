@@ -10,27 +10,27 @@ pub fn item_form(map: u16, kind: u16) -> ItemForm
 {
     match kind {
         1 => match map {
-            27 | 59 => ItemForm::Good(Kind::Load),
+            27 | 59 | 155 | 187 => ItemForm::Good(Kind::Load),
             _ => ItemForm::WrongMap,
         },
         2 => match map {
-            27 | 59 => ItemForm::Good(Kind::Store),
+            27 | 59 | 155 | 187 => ItemForm::Good(Kind::Store),
             _ => ItemForm::WrongMap,
         },
         3 => match map {
-            3 => ItemForm::Good(Kind::Assign),
+            3 | 131 => ItemForm::Good(Kind::Assign),
             _ => ItemForm::WrongMap,
         },
         4 => match map {
-            3 => ItemForm::Good(Kind::Assume),
+            3 | 131 => ItemForm::Good(Kind::Assume),
             _ => ItemForm::WrongMap,
         },
         5 => match map {
-            3 => ItemForm::Good(Kind::Read),
+            3 | 131 => ItemForm::Good(Kind::Read),
             _ => ItemForm::WrongMap,
         },
         6 => match map {
-            3 => ItemForm::Good(Kind::Write),
+            3 | 131 => ItemForm::Good(Kind::Write),
             _ => ItemForm::WrongMap,
         },
         7 => match map {
@@ -42,7 +42,7 @@ pub fn item_form(map: u16, kind: u16) -> ItemForm
             _ => ItemForm::WrongMap,
         },
         9 => match map {
-            3 => ItemForm::Good(Kind::Bar),
+            3 | 131 => ItemForm::Good(Kind::Bar),
             _ => ItemForm::WrongMap,
         },
         _ => ItemForm::UnknownKind,

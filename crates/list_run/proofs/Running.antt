@@ -13,7 +13,7 @@ use Rattle.model.specs.Refusals.{Result, ok, refused}
 use Rattle.model.specs.Bytes.{AreBytes}
 use Rattle.model.specs.Machine.{zeroStart}
 use Rattle.model.specs.Checks.{Accepted, accept, verdictOn, answered, fill}
-use Rattle.model.specs.Listings.{Listing, listing, listingOf, refusedLine, printed, printedOf}
+use Rattle.model.specs.Listings.{Listing, listingIn, listing, listingOf, refusedLine, printed, printedOf}
 use Rattle.model.proofs.Laws.{decided}
 use Rattle.list_run.specs.Statuses.{statusOf, notWritten, Status, written, unwritten}
 use Rattle.list_run.specs.Runs.{Whole, Runs}
@@ -38,7 +38,7 @@ module _ (memory : List ℕ) where
   printed-of-fits (refused r) = printed-fits (Refused r) (refusedLine r)
 
 fits : (program recorded memory : List ℕ) → Fits (listing program recorded memory)
-unfolding listing
+unfolding listingIn
 fits program recorded memory = printed-of-fits memory (accept zeroStart program recorded)
 
 -- Every status is one of the four.

@@ -16,9 +16,9 @@ const RECORD_FILE: [u8; 7] = *b"run.rec";
 
 // What is read of each file: one byte more than the longest readable program or record has. That byte is left over already, so what lies behind it
 // changes nothing (`the-same-listing`).
-const PROGRAM_START: usize = 16391;
+const PROGRAM_START: usize = 51209;
 
-const RECORD_START: usize = 9219;
+const RECORD_START: usize = 10243;
 
 // The longest listing that the limits of program and record allow.
 const LISTING: usize = 33803;

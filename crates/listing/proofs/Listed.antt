@@ -6,7 +6,7 @@ use Rattle.model.specs.declared.Header.{Header}
 use Rattle.model.specs.declared.Refusal.{Refusal}
 use Rattle.model.specs.Refusals.{Result, refused}
 use Rattle.model.specs.Checks.{Accepted, accept}
-use Rattle.model.specs.Listings.{Listing, printedOf, listing}
+use Rattle.model.specs.Listings.{Listing, printedOf, listingIn, listing}
 use Rattle.memory.specs.Tables.{Table, cellsSize, zeros}
 use Rattle.memory.specs.Copies.{startIn}
 use Rattle.memory.proofs.Stores.{zero-start}
@@ -23,7 +23,7 @@ module _ (program recorded memory : List ℕ) where
   acceptance = accept (startIn (zeros cellsSize)) program recorded
 
   from-zeros : {m : Result Accepted} → acceptance ≡ m → printedOf memory m ≡ listing program recorded memory
-  unfolding listing
+  unfolding listingIn
   from-zeros is = ap (printedOf memory) (sym is) ∙ ap (λ start. printedOf memory (accept start program recorded)) zero-start
 
   -- What is printed of numbers and tables is printed of equal ones.

@@ -4,8 +4,11 @@ pub mod Selections
 pub mod ItemKinds
 pub mod Bytes
 pub mod Faults
+pub mod Standing
 pub mod Tables
 pub mod ItemForms
+pub mod Formats
+pub mod OneForm
 pub mod Records
 pub mod Ranges
 pub mod Actions

@@ -1,26 +1,27 @@
 -- What was read is in its ranges: a header is within the limits, and every item of a record is one "as a record has them". A field passed its test if
 -- its map bit stands, and each right map of a kind has the bits that the kind needs.
-use Prim.Native.Nat.{ℕ, _<_}
+use Prim.Native.Nat.{ℕ, _+_, _*_, _<_, _≤_}
 use mathlib.Core.Path.{_≡_, refl}
-use mathlib.Core.Bool.{Bool, true, false, not, _&&_, _||_}
+use mathlib.Core.Bool.{Bool, true, false, true≢false, not, _&&_, _||_}
 use mathlib.Core.List.{List}
-use lib.Dec.{ltb, leb}
-use borrow.Author.Tests.{ltb-true}
+use native.Mathlib.Omega.{arith}
+use lib.Dec.{ltb, leb, eqb}
+use borrow.Author.Tests.{ltb-true, leb-true}
 use Rattle.model.specs.declared.Header.{Header}
 use Rattle.model.specs.declared.Kind.{Kind}
 use Rattle.model.specs.declared.Given.the-variants.{Value, Absent}
 use Rattle.model.specs.declared.Item.{Item}
-use Rattle.model.specs.Limits.{maxRanks, maxCells, maxRegisters, maxQueues, maxStates, maxTransitions, maxItems}
+use Rattle.model.specs.Limits.{maxRanks, maxCells, maxRegisters, maxQueues, maxStates, shortTransitions, maxTransitions, longCount, maxItems, byteValues}
 use Rattle.model.specs.Refusals.{ok, programLength, programRange, recordLength, recordRange}
 use Rattle.model.specs.Choice.{between, bit}
 use Rattle.model.specs.Bytes.{AreBytes, here, byte, word, judged, optional, times}
 use Rattle.model.specs.ItemKinds.{itemKinds, hasPlace, Part, command, fetch, delivery, partOf}
-use Rattle.model.specs.Programs.{Program, HeaderFits, headerNumber, readHeader, readTransition, programReader, readProgram}
-use Rattle.model.specs.ItemForms.{HasMap, itemMaps}
-use Rattle.model.specs.Records.{field, givenValue, itemFields, readItem, recordReader, readRecord}
+use Rattle.model.specs.Programs.{Program, HeaderFits, headerNumber, countByte, transitionCount, readHeaderIn, readHeader, readTransition, programReaderIn, programReader, readProgramIn, readProgram}
+use Rattle.model.specs.Formats.{HasMap, itemMaps}
+use Rattle.model.specs.Records.{field, lowByte, highByte, givenValue, itemFields, readItemIn, readItem, recordReaderIn, recordReader, readRecordIn, readRecord}
 use Rattle.model.specs.Replay.{every}
 use Rattle.model.specs.Traces.{Each, all, one, ChosenIn, GivenIn, InRecord}
-use Rattle.model.proofs.Laws.{and-true, Within, between-true}
+use Rattle.model.proofs.Laws.{and-true, decided, Within, between-true}
 use Rattle.model.proofs.Bytes.{Finds, finds-anything, finds-pure, finds-bind, finds-judged, finds-optional, finds-times, finds-word, whole-finds, finds-weaker}
 use Rattle.model.proofs.Tables.{everyRow}
 use Rattle.model.proofs.ItemForms.{each-map, form-finds}
@@ -31,15 +32,25 @@ unfolding headerNumber
 number-finds low high =
     finds-weaker (finds-judged (between low high) programRange (byte programLength)) (between-true low high)
 
+-- A count of one byte is at most 128, and a two-byte one is in its range.
+count-finds : {bytes : List ℕ} → Finds bytes (transitionCount maxTransitions) (λ n. n ≤ maxTransitions)
+unfolding transitionCount
+count-finds =
+    finds-bind (finds-judged (countByte maxTransitions) programRange (byte programLength)) λ count passes.
+    decided (eqb count longCount)
+    (λ t. rw t (finds-weaker (finds-judged (between (shortTransitions + 1) maxTransitions) programRange (word programLength))
+    (λ n h. between-true (shortTransitions + 1) maxTransitions n h .high)))
+    (λ t. rw t (finds-pure count (omega (arith, leb-true count shortTransitions (rw t at passes)))))
+
 pub header-finds : {bytes : List ℕ} → Finds bytes readHeader HeaderFits
-unfolding readHeader
+unfolding readHeaderIn
 header-finds =
     finds-bind (number-finds 1 maxRanks) λ ranks ranks-in.
     finds-bind (number-finds 1 maxCells) λ cells cells-in.
     finds-bind (number-finds 1 maxRegisters) λ registers registers-in.
     finds-bind (number-finds 1 maxQueues) λ queues queues-in.
     finds-bind (number-finds 1 maxStates) λ states states-in.
-    finds-bind (number-finds 0 maxTransitions) λ transitions transitions-in.
+    finds-bind count-finds λ transitions transitions-in.
     finds-pure _
     (record {
       ranksLow = ranks-in .low;
@@ -48,12 +59,12 @@ header-finds =
       registersFit = registers-in .high;
       queuesFit = queues-in .high;
       statesFit = states-in .high;
-      transitionsFit = transitions-in .high;
+      transitionsFit = transitions-in;
     })
 
 -- A program that was read has a header within the limits.
 pub header-fits : (bytes : List ℕ) {P : Program} → readProgram bytes ≡ ok P → HeaderFits (P .header)
-unfolding readProgram programReader
+unfolding readProgramIn programReaderIn
 header-fits bytes =
     whole-finds programLength programReader bytes (λ P. HeaderFits (P .header))
     (finds-bind header-finds λ header fits. finds-bind (finds-anything (times (header .transitions)
@@ -86,6 +97,24 @@ field-finds : {bytes : List ℕ} (test : ℕ → Bool) → Finds bytes (field te
 unfolding field
 field-finds test = finds-judged test recordRange (byte recordLength)
 
+-- A transition's byte that is the whole number is below T, and so is the number that a high byte makes.
+low-finds : {bytes : List ℕ} (high : Bool) (transitions : ℕ) → Finds bytes (lowByte high transitions) (λ t. high ≡ false → ltb t transitions ≡ true)
+unfolding lowByte
+low-finds true transitions = record { holds = λ at f h absent. absurd (true≢false absent) }
+low-finds false transitions = finds-weaker (field-finds (λ t. ltb t transitions)) (λ t below absent. below)
+
+high-finds : {bytes : List ℕ} (transitions low : ℕ) → Finds bytes (highByte transitions low) (λ t. ltb t transitions ≡ true)
+unfolding highByte
+high-finds transitions low =
+    finds-bind (field-finds (λ h. ltb 0 h && ltb (h * byteValues + low) transitions)) λ high passes.
+    finds-pure _ (and-true (ltb 0 high) (ltb (high * byteValues + low) transitions) passes .1)
+
+-- Without a high byte the low one is the number. An item without a transition has none to be below T.
+number-finds-below : {bytes : List ℕ} (named high : Bool) (transitions low : ℕ) → (named ≡ true → high ≡ false → ltb low transitions ≡ true) →
+    Finds bytes (optional high low (highByte transitions low)) (λ t. named ≡ true → ltb t transitions ≡ true)
+number-finds-below named true transitions low below = finds-weaker (high-finds transitions low) (λ t passes standing. passes)
+number-finds-below named false transitions low below = finds-pure low (λ standing. below standing refl)
+
 -- A value of two bytes fits 16 bits.
 given-finds : {bytes : List ℕ} → Finds bytes givenValue (λ g. AreBytes bytes → GivenIn g)
 unfolding givenValue
@@ -116,11 +145,12 @@ fields-find : {bytes : List ℕ} (header : Header) {map : ℕ} {kind : Kind} →
 unfolding itemFields
 fields-find header {map} {kind} has =
     finds-bind (finds-optional (bit 0 map) 0 (field-finds (between 1 (header .ranks)))) λ rank rank-in.
-    finds-bind (finds-optional (bit 1 map) 0 (field-finds (λ t. ltb t (header .transitions)))) λ transition transition-in.
+    finds-bind (finds-optional (bit 1 map) 0 (low-finds (bit 7 map) (header .transitions))) λ low low-in.
     finds-bind (finds-optional (bit 2 map) 0 (field-finds (λ q. ltb q (header .queues)))) λ queue queue-in.
     finds-bind (finds-optional (bit 3 map) 0 (field-finds (between 1 (header .ranks)))) λ place-rank place-rank-in.
     finds-bind (finds-optional (bit 4 map) 0 (finds-judged (λ a. ltb a (header .cells)) recordRange (word recordLength))) λ place-cell place-cell-in.
     finds-bind (absent-or-given (bit 5 map)) λ given given-in.
+    finds-bind (number-finds-below (bit 1 map) (bit 7 map) (header .transitions) low low-in) λ transition transition-in.
     finds-pure _
     (record {
       rank = between-true 1 (header .ranks) rank (rank-in (rank-bit has));
@@ -131,7 +161,7 @@ fields-find header {map} {kind} has =
     })
 
 pub item-finds : {bytes : List ℕ} (header : Header) → Finds bytes (readItem header) (Ranged header bytes)
-unfolding readItem
+unfolding readItemIn
 item-finds header =
     finds-bind (finds-anything here) λ at _.
     finds-bind (finds-anything (byte recordLength)) λ map _.
@@ -157,7 +187,7 @@ each-in-record bound (one r rest) = one (ranged-in-record bound r) (each-in-reco
 
 pub read-in-record : (header : Header) (bytes : List ℕ) {items : List Item} → AreBytes bytes → readRecord header bytes ≡ ok items →
     Each (InRecord header) items
-unfolding readRecord recordReader
+unfolding readRecordIn recordReaderIn
 read-in-record header bytes bound h =
     each-in-record bound
     (whole-finds recordLength (recordReader header) bytes (Each (Ranged header bytes))

@@ -1,7 +1,8 @@
 -- What the item reader answers shows the verdict on map and kind: where both are there, it is 6 at the kind's byte exactly if the kind is unknown, 6 at
 -- the map's byte exactly if the map is not its kind's, and else what the fields come to, which are never refused by 6.
-use Prim.Native.Nat.{ℕ, _+_, _<_}
+use Prim.Native.Nat.{ℕ, _+_, _*_, _<_}
 use mathlib.Core.Path.{_≡_, refl, sym, subst, _∙_}
+use mathlib.Core.Bool.{Bool, true, false, _&&_}
 use mathlib.Core.List.{List}
 use mathlib.Core.Logic.{_↔_, _⊎_, inl, inr, ⊎-elim}
 use native.Mathlib.Omega.{arith}
@@ -13,30 +14,47 @@ use Rattle.model.specs.declared.Item.{Item}
 use Rattle.model.specs.declared.ItemForm.{ItemForm}
 use Rattle.model.specs.declared.ItemForm.the-variants.{Good, UnknownKind, WrongMap}
 use Rattle.model.specs.declared.Kind.{Kind}
+use Rattle.model.specs.Limits.{byteValues}
 use Rattle.model.specs.Refusals.{refuse, recordLength, recordRange, recordForm}
 use Rattle.model.specs.Choice.{between, bit}
 use Rattle.model.specs.Bytes.{Reader, _>>=_}
+use Rattle.model.specs.Formats.{HasMap}
 use Rattle.model.specs.ItemForms.{FormIs, itemForm, judgedItemForm}
-use Rattle.model.specs.Records.{field, givenValue, itemFields, readItem}
+use Rattle.model.specs.Records.{field, lowByte, highByte, givenValue, itemFields, readItemIn, readItem}
 use Rattle.model.proofs.Laws.{same-place}
 use Rattle.model.proofs.Bytes.{byte-there}
 use Rattle.model.proofs.Faults.{Faults, pure-faults, bind-faults, byte-faults, word-faults, judged-faults, optional-faults}
-use Rattle.model.proofs.ItemForms.{form-is, form-only}
+use Rattle.model.proofs.ItemForms.{today-maps, form-is, form-only}
 
--- Fields are refused by 4 or 5.
+-- Fields are refused by 4 or 5: a transition's two bytes ..
+low-faults : {Row : ℕ → Type 0} → Row recordLength → Row recordRange → (high : Bool) (transitions : ℕ) → Faults Row (lowByte high transitions)
+unfolding lowByte field
+low-faults length-row range-row true transitions = byte-faults recordLength length-row
+low-faults length-row range-row false transitions =
+    judged-faults (λ t. ltb t transitions) recordRange range-row (byte-faults recordLength length-row)
+
+high-faults : {Row : ℕ → Type 0} → Row recordLength → Row recordRange → (transitions low : ℕ) → Faults Row (highByte transitions low)
+unfolding highByte field
+high-faults length-row range-row transitions low =
+    bind-faults
+    (judged-faults (λ h. ltb 0 h && ltb (h * byteValues + low) transitions) recordRange range-row (byte-faults recordLength length-row)) λ high.
+    pure-faults _
+
+-- .. and all of them.
 pub item-fields-fault : {Row : ℕ → Type 0} → Row recordLength → Row recordRange → (header : Header) (map : ℕ) (kind : Kind) →
     Faults Row (itemFields header map kind)
 unfolding itemFields field givenValue
 item-fields-fault length-row range-row header map kind =
     let one-byte : _ = byte-faults recordLength length-row in
     bind-faults (optional-faults (bit 0 map) 0 (judged-faults (between 1 (header .ranks)) recordRange range-row one-byte)) λ rank.
-    bind-faults (optional-faults (bit 1 map) 0 (judged-faults (λ t. ltb t (header .transitions)) recordRange range-row one-byte)) λ transition.
+    bind-faults (optional-faults (bit 1 map) 0 (low-faults length-row range-row (bit 7 map) (header .transitions))) λ low.
     bind-faults (optional-faults (bit 2 map) 0 (judged-faults (λ q. ltb q (header .queues)) recordRange range-row one-byte)) λ queue.
     bind-faults (optional-faults (bit 3 map) 0 (judged-faults (between 1 (header .ranks)) recordRange range-row one-byte)) λ place-rank.
     bind-faults
     (optional-faults (bit 4 map) 0
     (judged-faults (λ a. ltb a (header .cells)) recordRange range-row (word-faults recordLength length-row))) λ place-cell.
     bind-faults (optional-faults (bit 5 map) Absent (bind-faults (word-faults recordLength length-row) λ value. pure-faults _)) λ given.
+    bind-faults (optional-faults (bit 7 map) low (high-faults length-row range-row (header .transitions) low)) λ transition.
     pure-faults _
 
 -- So a field is never refused by 6.
@@ -47,9 +65,9 @@ module _ (header : Header) (map : ℕ) (kind : Kind) (bytes : List ℕ) (next pl
       .tabled bytes next .row (record { number = recordForm; place = place }) h in
       omega arith
 
--- Document 01's verdict on the map byte and the kind byte at a place.
+-- The papers' verdict on the map byte and the kind byte at a place.
 abbrev pub FormAt : List ℕ → (at : ℕ) → ItemForm → Type 0
-FormAt bytes at form = FormIs (getD bytes at 0) (getD bytes (at + 1) 0) form
+FormAt bytes at form = FormIs HasMap (getD bytes at 0) (getD bytes (at + 1) 0) form
 
 -- Where both bytes are there, the verdict decides.
 module _ (header : Header) (bytes : List ℕ) (at : ℕ) (there : at + 1 < length bytes) where
@@ -57,9 +75,9 @@ module _ (header : Header) (bytes : List ℕ) (at : ℕ) (there : at + 1 < lengt
   fieldsAfter = itemFields header (getD bytes at 0)
 
   read-by : {form : ItemForm} → FormAt bytes at form → readItem header bytes at ≡ (judgedItemForm at form >>= fieldsAfter) bytes (at + 1 + 1)
-  unfolding readItem
+  unfolding readItemIn
   read-by v =
-      rw (byte-there recordLength bytes at (omega arith), byte-there recordLength bytes (at + 1) there, form-only v)
+      rw (byte-there recordLength bytes at (omega arith), byte-there recordLength bytes (at + 1) there, form-only today-maps v)
 
   -- Good: the fields follow.
   pub good-read : {kind : Kind} → FormAt bytes at (Good kind) → readItem header bytes at ≡ fieldsAfter kind bytes (at + 1 + 1)
@@ -78,7 +96,7 @@ module _ (header : Header) (bytes : List ℕ) (at : ℕ) (there : at + 1 < lengt
   pub form-refused : {place : ℕ} → readItem header bytes at ≡ refuse recordForm place →
       (FormAt bytes at UnknownKind × (place ≡ at + 1)) ⊎ (FormAt bytes at WrongMap × (place ≡ at))
   form-refused h =
-      let is : FormAt bytes at (itemForm (getD bytes at 0) (getD bytes (at + 1) 0)) = form-is (getD bytes at 0) (getD bytes (at + 1) 0) in
+      let is : FormAt bytes at (itemForm (getD bytes at 0) (getD bytes (at + 1) 0)) = form-is today-maps (getD bytes at 0) (getD bytes (at + 1) 0) in
       ⊎-elim
       (λ u. inl (subst (FormAt bytes at) (u .0) is, u .1))
       (λ w. inr (subst (FormAt bytes at) (w .0) is, w .1))

@@ -9,9 +9,10 @@ use Rattle.model.specs.declared.Answer.the-variants.{Order, Ring, Refuse
 use Rattle.model.specs.declared.Filled.{Filled}
 use Rattle.model.specs.declared.Filled.the-variants.{Entries}
 use Rattle.model.specs.declared.Refusal.{Refusal}
-use Rattle.model.specs.Checks.{Outcome, check, checkBytes}
-use Rattle.model.specs.Slips.{Lent, writeSlip, readSlip}
-use Rattle.model.specs.Listings.{Listing, listing, join}
+use Rattle.model.specs.Formats.{itemMaps}
+use Rattle.model.specs.Checks.{Outcome, checkIn, check, checkBytesIn, checkBytes}
+use Rattle.model.specs.Slips.{Lent, writeSlipIn, writeSlip, readSlip}
+use Rattle.model.specs.Listings.{Listing, listingIn, listing, join}
 use Rattle.model.proofs.Samples.{neighbour, noItems, lateDelivery, deliveryFirst, alone, selfCopy, writeItem, popItem, copyThenStore, storeItem, assumeOf, storeTo, storeOf, valueItem, sums, twoTransfers, overtaking}
 
 -- What is asked: the whole check with what both lists hold, the same on bytes, a listing or a slip with what the memory holds, a slip read with N and
@@ -30,7 +31,7 @@ pub data Reply : Type 0 where
 
 -- What the definitions say.
 pub reply : Question → Reply
-unfolding check checkBytes listing writeSlip readSlip
+unfolding itemMaps checkIn checkBytesIn listingIn writeSlipIn readSlip
 reply (checks program recorded order cells) = checked (check program recorded order cells)
 reply (enters program recorded order cells) = checked (checkBytes program recorded order cells)
 reply (lists program recorded memory) = printed (listing program recorded memory)

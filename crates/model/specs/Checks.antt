@@ -10,8 +10,9 @@ use Rattle.model.specs.declared.Item.{Item}
 use Rattle.model.specs.Refusals.{Result, ok, refused, require, orderTooShort, memoryTooShort, _>>=_}
 use Rattle.model.specs.Choice.{select, numbersFrom}
 use Rattle.model.specs.Bytes.{wordBytes}
-use Rattle.model.specs.Programs.{Program, readProgram}
-use Rattle.model.specs.Records.{readRecord}
+use Rattle.model.specs.Formats.{Format, today}
+use Rattle.model.specs.Programs.{Program, readProgramIn}
+use Rattle.model.specs.Records.{readRecordIn}
 use Rattle.model.specs.Machine.{Start, zeroStart}
 use Rattle.model.specs.Replay.{Event, Replayed, replay}
 use Rattle.model.specs.HappensBefore.{edgesOf}
@@ -23,13 +24,16 @@ pub record Accepted : Type 0 where
   pub run : Replayed
 
 -- "The program is read first, then the whole record, front to back"; then the items in turn.
-unfoldable pub accept : Start → (program recorded : List ℕ) → Result Accepted
-unfolding readProgram readRecord replay
-accept start program recorded = do
-  P ← readProgram program
-  items ← readRecord (P .header) recorded
+unfoldable pub acceptIn : Format → Start → (program recorded : List ℕ) → Result Accepted
+unfolding readProgramIn readRecordIn replay
+acceptIn format start program recorded = do
+  P ← readProgramIn format program
+  items ← readRecordIn format (P .header) recorded
   run ← replay P start items
   ok (record { program = P; run = run })
+
+abbrev pub accept : Start → (program recorded : List ℕ) → Result Accepted
+accept = acceptIn today
 
 -- The verdict on an accepted record: its arrows, and what they come to.
 unfoldable pub verdictOn : Replayed → Verdict
@@ -93,15 +97,18 @@ pub record Verdicts : Type 0 where
   pub verdict : Verdict
   pub cells : List ℕ
 
-unfoldable pub checkResult : Start → (program recorded : List ℕ) → (orderLength cellsLength : ℕ) → Result Verdicts
-unfolding accept verdictOn lastCells
-checkResult start program recorded orderLength cellsLength = do
-  a ← accept start program recorded
+unfoldable pub checkResultIn : Format → Start → (program recorded : List ℕ) → (orderLength cellsLength : ℕ) → Result Verdicts
+unfolding acceptIn verdictOn lastCells
+checkResultIn format start program recorded orderLength cellsLength = do
+  a ← acceptIn format start program recorded
   let groups : ℕ = a .run .last .opened
   let count : ℕ = a .program .header .ranks * a .program .header .cells
   _ ← require (leb groups orderLength) orderTooShort groups
   _ ← require (leb count cellsLength) memoryTooShort count
   ok (record { verdict = verdictOn (a .run); cells = lastCells a })
+
+abbrev pub checkResult : Start → (program recorded : List ℕ) → (orderLength cellsLength : ℕ) → Result Verdicts
+checkResult = checkResultIn today
 
 -- "On a refusal nothing lent changes."
 unfoldable pub outcome : (order cells : List ℕ) → Result Verdicts → Outcome
@@ -111,9 +118,13 @@ outcome order cells (ok v) =
     record { answer = answered (v .verdict); order = fill (listed (v .verdict)) order; cells = fill (v .cells) cells }
 
 -- The whole check, from document 01's start; `order` and `cells` are what the lent lists hold.
-unfoldable pub check : (program recorded order cells : List ℕ) → Outcome
-unfolding zeroStart checkResult outcome
-check program recorded order cells = outcome order cells (checkResult zeroStart program recorded (length order) (length cells))
+unfoldable pub checkIn : Format → (program recorded order cells : List ℕ) → Outcome
+unfolding zeroStart checkResultIn outcome
+checkIn format program recorded order cells =
+    outcome order cells (checkResultIn format zeroStart program recorded (length order) (length cells))
+
+abbrev pub check : (program recorded order cells : List ℕ) → Outcome
+check = checkIn today
 
 -- The recorder's entry: "both lists there are bytes, two an entry, and an odd last byte is never used."
 unfoldable pub entryBytes : List ℕ → List ℕ
@@ -130,7 +141,10 @@ outcomeBytes order cells (ok v) =
       cells = fill (entryBytes (v .cells)) cells;
     }
 
-unfoldable pub checkBytes : (program recorded order cells : List ℕ) → Outcome
-unfolding zeroStart checkResult outcomeBytes
-checkBytes program recorded order cells =
-    outcomeBytes order cells (checkResult zeroStart program recorded (length order / 2) (length cells / 2))
+unfoldable pub checkBytesIn : Format → (program recorded order cells : List ℕ) → Outcome
+unfolding zeroStart checkResultIn outcomeBytes
+checkBytesIn format program recorded order cells =
+    outcomeBytes order cells (checkResultIn format zeroStart program recorded (length order / 2) (length cells / 2))
+
+abbrev pub checkBytes : (program recorded order cells : List ℕ) → Outcome
+checkBytes = checkBytesIn today

@@ -4,6 +4,7 @@ pub mod Refusals
 pub mod Choice
 pub mod Bytes
 pub mod ItemKinds
+pub mod Formats
 pub mod Expressions
 pub mod Programs
 pub mod ItemForms

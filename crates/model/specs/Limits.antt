@@ -1,4 +1,4 @@
--- The limits of document 01's formats, each under one name.
+-- The limits of the formats, document 01's and those that document 02 widened, each under one name.
 use Prim.Native.Nat.{ℕ}
 
 -- "Ranks 1 to N, N 1..8."
@@ -19,8 +19,16 @@ maxQueues = 4
 abbrev pub maxStates : ℕ
 maxStates = 64
 
+-- What a count of one byte says at most.
+abbrev pub shortTransitions : ℕ
+shortTransitions = 128
+
+-- Document 02, #107: "T may reach 400: a count byte of 255 in the header says that a two-byte count follows".
 abbrev pub maxTransitions : ℕ
-maxTransitions = 128
+maxTransitions = 400
+
+abbrev pub longCount : ℕ
+longCount = 255
 
 -- "Expressions are tokens in prefix form, at most 15 each."
 abbrev pub maxTokens : ℕ

@@ -12,10 +12,11 @@ use Rattle.model.specs.declared.Refusal.{Refusal}
 use Rattle.model.specs.Refusals.{Result, ok, refused, memoryTooShort}
 use Rattle.model.specs.Choice.{when}
 use Rattle.model.specs.ItemKinds.{isBar}
+use Rattle.model.specs.Formats.{Format, today}
 use Rattle.model.specs.Machine.{zeroStart}
 use Rattle.model.specs.Replay.{Event}
 use Rattle.model.specs.Orders.{Verdict, ordered, cyclic}
-use Rattle.model.specs.Checks.{Accepted, accept, verdictOn, listed, answered, rankByRank, fill}
+use Rattle.model.specs.Checks.{Accepted, acceptIn, verdictOn, listed, answered, rankByRank, fill}
 
 -- The digits of a number in decimal; `size` is at least the number of digits less one.
 unfoldable pub digits : (size n : ℕ) → List ℕ
@@ -131,6 +132,9 @@ printedOf memory (ok a) =
     printed memory (answered v) (listingOf a v)
 
 -- The whole listing, from document 01's start; `memory` is what the lent bytes hold.
-unfoldable pub listing : (program recorded memory : List ℕ) → Listing
-unfolding zeroStart accept printedOf
-listing program recorded memory = printedOf memory (accept zeroStart program recorded)
+unfoldable pub listingIn : Format → (program recorded memory : List ℕ) → Listing
+unfolding zeroStart acceptIn printedOf
+listingIn format program recorded memory = printedOf memory (acceptIn format zeroStart program recorded)
+
+abbrev pub listing : (program recorded memory : List ℕ) → Listing
+listing = listingIn today

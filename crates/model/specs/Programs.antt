@@ -1,15 +1,17 @@
--- Program bytes (document 01): "N, A, R, Q, S, T, one byte each, then T transitions."
+-- Program bytes (document 01): "N, A, R, Q, S, T, one byte each, then T transitions"; and document 02's #107 on T.
 use Prim.Native.Nat.{ℕ, _+_, _≤_}
+use mathlib.Core.Bool.{Bool}
 use mathlib.Core.List.{List, [], _∷_}
 use mathlib.Core.Option.{Option, some, none}
-use lib.Dec.{ltb, eqb}
+use lib.Dec.{ltb, leb, eqb}
 use Rattle.model.specs.declared.Header.{Header}
 use Rattle.model.specs.declared.Kind.{Kind}
 use Rattle.model.specs.declared.Kind.the-variants.{Load, Store, Assign, Assume, Read, Write, Bar}
-use Rattle.model.specs.Limits.{maxRanks, maxCells, maxRegisters, maxQueues, maxStates, maxTransitions}
+use Rattle.model.specs.Limits.{maxRanks, maxCells, maxRegisters, maxQueues, maxStates, shortTransitions, maxTransitions, longCount}
 use Rattle.model.specs.Refusals.{Result, programLength, programRange, programForm}
 use Rattle.model.specs.Choice.{when, between, bit, lookup}
-use Rattle.model.specs.Bytes.{Reader, pure, here, fault, byte, judged, optional, times, whole, _>>=_}
+use Rattle.model.specs.Bytes.{Reader, pure, here, fault, byte, word, judged, optional, times, whole, _>>=_}
+use Rattle.model.specs.Formats.{Format, today}
 use Rattle.model.specs.Expressions.{Expression, constant, expression}
 
 -- The command column of document 01's table of kinds.
@@ -101,16 +103,27 @@ unfoldable pub headerNumber : (low high : ℕ) → Reader ℕ
 unfolding byte judged
 headerNumber low high = judged (between low high) programRange (byte programLength)
 
--- "N 1..8", "A cells (1..64), R registers (1..16), Q queues (1..4)", "S control states (1..64), T transitions (0..128)".
-unfoldable pub readHeader : Reader Header
-unfolding headerNumber
-readHeader = do
+-- "a count byte of 255 in the header says that a two-byte count follows, and that count is 129 or more"; "A count byte 129..254 or a two-byte count
+-- not 129..400 gets 2." A format of at most 128 transitions has no count but the byte's.
+abbrev pub countByte : (most n : ℕ) → Bool
+countByte most n = when (eqb n longCount) (λ _. ltb shortTransitions most) (λ _. leb n shortTransitions)
+
+unfoldable pub transitionCount : (most : ℕ) → Reader ℕ
+unfolding byte word judged
+transitionCount most = do
+  count ← judged (countByte most) programRange (byte programLength)
+  optional (eqb count longCount) count (judged (between (shortTransitions + 1) most) programRange (word programLength))
+
+-- "N 1..8", "A cells (1..64), R registers (1..16), Q queues (1..4)", "S control states (1..64)", and T.
+unfoldable pub readHeaderIn : Format → Reader Header
+unfolding headerNumber transitionCount
+readHeaderIn format = do
   ranks ← headerNumber 1 maxRanks
   cells ← headerNumber 1 maxCells
   registers ← headerNumber 1 maxRegisters
   queues ← headerNumber 1 maxQueues
   states ← headerNumber 1 maxStates
-  transitions ← headerNumber 0 maxTransitions
+  transitions ← transitionCount (format .transitions)
   pure
       (record {
         ranks = ranks;
@@ -120,6 +133,9 @@ readHeader = do
         states = states;
         transitions = transitions;
       })
+
+abbrev pub readHeader : Reader Header
+readHeader = readHeaderIn today
 
 -- A header with its numbers in these ranges: every one that is read (`header-fits`).
 pub record HeaderFits (h : Header) : Type 0 where
@@ -131,14 +147,20 @@ pub record HeaderFits (h : Header) : Type 0 where
   pub statesFit : h .states ≤ maxStates
   pub transitionsFit : h .transitions ≤ maxTransitions
 
-unfoldable pub programReader : Reader Program
-unfolding readHeader times readTransition
-programReader = do
-  header ← readHeader
+unfoldable pub programReaderIn : Format → Reader Program
+unfolding readHeaderIn times readTransition
+programReaderIn format = do
+  header ← readHeaderIn format
   transitions ← times (header .transitions) (readTransition header)
   pure (record { header = header; transitions = transitions })
 
+abbrev pub programReader : Reader Program
+programReader = programReaderIn today
+
 -- The program that these bytes are, or the refusal.
-unfoldable pub readProgram : List ℕ → Result Program
-unfolding whole programReader
-readProgram = whole programLength programReader
+unfoldable pub readProgramIn : Format → List ℕ → Result Program
+unfolding whole programReaderIn
+readProgramIn format = whole programLength (programReaderIn format)
+
+abbrev pub readProgram : List ℕ → Result Program
+readProgram = readProgramIn today

@@ -10,8 +10,9 @@ use Rattle.model.specs.Refusals as Refusals
 use Rattle.model.specs.Refusals.{Result, ok, refused, require, memoryTooShort, slipForm}
 use Rattle.model.specs.Choice.{when, between, bit, numbersFrom}
 use Rattle.model.specs.Bytes.{Reader, _>>=_, pure, byte, word, wordBytes, judged, optional, whole}
+use Rattle.model.specs.Formats.{Format, today}
 use Rattle.model.specs.Machine.{zeroStart}
-use Rattle.model.specs.Checks.{Accepted, accept, fill}
+use Rattle.model.specs.Checks.{Accepted, acceptIn, fill}
 
 -- What was filled or refused, and what the lent memory holds at the end.
 pub record Lent : Type 0 where
@@ -44,10 +45,13 @@ slipOf a =
     rankMap (a .run .last .taken) ranks ∷ countBytes (a .run .last .taken) ranks
 
 -- "The slip writer and the listing refuse program and record as the check does, then look at 15 only."
-unfoldable pub writeSlip : (program recorded memory : List ℕ) → Lent
-unfolding zeroStart accept slipOf lend
-writeSlip program recorded memory =
-    lend memory (Refusals._>>=_ (accept zeroStart program recorded) (λ a. ok (slipOf a)))
+unfoldable pub writeSlipIn : Format → (program recorded memory : List ℕ) → Lent
+unfolding zeroStart acceptIn slipOf lend
+writeSlipIn format program recorded memory =
+    lend memory (Refusals._>>=_ (acceptIn format zeroStart program recorded) (λ a. ok (slipOf a)))
+
+abbrev pub writeSlip : (program recorded memory : List ℕ) → Lent
+writeSlip = writeSlipIn today
 
 -- "a count of 0 or above 1,024, a missing byte or a left-over one is 16 there"; "0 for a rank without a bit".
 unfoldable pub readCounts : (map : ℕ) → (ranks : List ℕ) → Reader (List ℕ)

@@ -22,10 +22,10 @@ pub type Registers = [RankRegisters; RANKS];
 
 pub const QUEUES: usize = 4;
 
-// "S control states (1..64), T transitions (0..128), both numbered from 0."
+// "S control states (1..64), T transitions (0..128), both numbered from 0"; document 02, #107: "T may reach 400".
 pub const STATES: usize = 64;
 
-pub const TRANSITIONS: usize = 128;
+pub const TRANSITIONS: usize = 400;
 
 // Where each transition of a program starts.
 pub type Starts = [usize; TRANSITIONS];

@@ -13,7 +13,7 @@ use Rattle.model.specs.Limits.{maxTransitions}
 use Rattle.model.specs.Refusals as Refusals
 use Rattle.model.specs.Refusals.{Result, ok, refused}
 use Rattle.model.specs.Bytes.{Found, found, times}
-use Rattle.model.specs.Programs.{HeaderFits, Program, Transition, readHeader, readProgram, readTransition}
+use Rattle.model.specs.Programs.{HeaderFits, Program, Transition, readHeader, readProgramIn, readProgram, readTransition}
 use Rattle.model.proofs.Laws.{bind-assoc, decided}
 use Rattle.model.proofs.Bytes.{times-more, times-none}
 use Rattle.model.proofs.Ranges.{header-finds}
@@ -22,12 +22,12 @@ use Rattle.program.specs.declared.header.HeaderRead.{HeaderRead}
 use Rattle.program.specs.declared.reader.ReadAnswer as ReadAnswer
 use Rattle.program.specs.declared.reader.ReadAnswer.{ReadAnswer}
 use Rattle.program.specs.declared.reader.ProgramRead.{ProgramRead}
+use Rattle.program.specs.Headers.{headerRead}
 use Rattle.program.specs.Starts.{
   Answers,
   Starts,
   afterHeader,
   entries,
-  headerRead,
   padded,
   programRead,
   reach,
@@ -131,7 +131,7 @@ module _ (header : Header) (bytes : List ℕ) (at : ℕ) where
     starts-after = rw h (bind-assoc (times (header .transitions) (startOf header) bytes at) _ _)
 
     program-after : readProgram bytes ≡ withTransitions (times (header .transitions) (readTransition header) bytes at)
-    unfolding readProgram
+    unfolding readProgramIn
     program-after = rw h (bind-assoc (times (header .transitions) (readTransition header) bytes at) _ _)
 
     together-after : Together bytes (readStarts bytes) (readProgram bytes)
@@ -145,7 +145,7 @@ module _ (header : Header) (bytes : List ℕ) (at : ℕ) where
 
 module _ (bytes : List ℕ) where
   no-header-alike : {r : Refusal} → readHeader bytes 0 ≡ refused r → Together bytes (readStarts bytes) (readProgram bytes)
-  unfolding readStarts readProgram
+  unfolding readStarts readProgramIn
   no-header-alike h = rw h refl
 
   together-by : (m : Result (Found Header)) → readHeader bytes 0 ≡ m → Together bytes (readStarts bytes) (readProgram bytes)

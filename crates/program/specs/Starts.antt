@@ -11,17 +11,10 @@ use Rattle.model.specs.Refusals as Refusals
 use Rattle.model.specs.Refusals.{Result, ok, refused, refuse, programLength}
 use Rattle.model.specs.Choice.{when}
 use Rattle.model.specs.Bytes.{Found, Reader, _>>=_, pure, here, times, whole}
-use Rattle.model.specs.Programs.{Program, readHeader, readProgram, readTransition}
-use Rattle.program.specs.declared.header.HeaderRead as HeaderRead
-use Rattle.program.specs.declared.header.HeaderRead.{HeaderRead}
+use Rattle.model.specs.Programs.{Program, readHeaderIn, readHeader, readProgram, readTransition}
 use Rattle.program.specs.declared.reader.ReadAnswer as ReadAnswer
 use Rattle.program.specs.declared.reader.ReadAnswer.{ReadAnswer}
 use Rattle.program.specs.declared.reader.ProgramRead.{ProgramRead}
-
--- A header's answer.
-unfoldable pub headerRead : Result (Found Header) → HeaderRead
-headerRead (ok f) = HeaderRead.the-variants.Read (f .value) (f .next)
-headerRead (refused r) = HeaderRead.the-variants.Refused r
 
 -- Reads a transition, and gives where it starts.
 unfoldable pub startOf : Header → Reader ℕ
@@ -37,7 +30,7 @@ pub record Starts : Type 0 where
   pub starts : List ℕ
 
 unfoldable pub startsReader : Reader Starts
-unfolding readHeader times startOf
+unfolding readHeaderIn times startOf
 startsReader = do
   header ← readHeader
   starts ← times (header .transitions) (startOf header)

@@ -3,6 +3,7 @@ use Prim.Native.Nat.{ℕ}
 use mathlib.Core.Path.{_≡_, refl}
 use mathlib.Core.Bool.{Bool, true, false}
 use mathlib.Core.List.{List}
+use Rattle.model.specs.declared.Given.{Given}
 use Rattle.model.specs.declared.Given.the-variants.{Absent}
 use Rattle.model.specs.declared.Header.{Header}
 use Rattle.model.specs.declared.Item.{Item}
@@ -14,7 +15,7 @@ use Rattle.model.specs.Refusals.{Result, ok, refused, recordLength, recordForm}
 use Rattle.model.specs.Choice.{bit}
 use Rattle.model.specs.Bytes.{Found, Reader, found, pure, byte, word, optional}
 use Rattle.model.specs.ItemForms.{itemForm, judgedItemForm}
-use Rattle.model.specs.Records.{field, givenValue, itemFields, readItem}
+use Rattle.model.specs.Records.{field, givenValue, itemFields, readItemIn, readItem}
 use Rattle.model.proofs.Laws.{bind-assoc, told}
 use Rattle.model.proofs.Bytes.{byte-next}
 use Rattle.fields.specs.declared.Field as Field
@@ -23,8 +24,8 @@ use Rattle.fields.specs.Fields.{fieldOf, _>>=_}
 use Rattle.fields.proofs.Fields.{field-told, field-goes-on}
 use Rattle.record.specs.declared.item.ItemRead as ItemRead
 use Rattle.record.specs.declared.item.ItemRead.{ItemRead}
-use Rattle.record.specs.Optional.{rankField, numberField, cellField, valueField}
-use Rattle.record.specs.Items.{bare, given, withGiven, itemRead, readActor, readQueue, readPlace, readGiven}
+use Rattle.record.specs.Optional.{rankField, numberField, lowField, transitionField, cellField, valueField}
+use Rattle.record.specs.Items.{bare, given, withGiven, itemRead, readActor, readQueue, readPlace, readGiven, readHigh}
 
 -- What follows map and kind, which stand at `at`.
 abbrev judgedItem : Header → (at map kind : ℕ) → Reader Item
@@ -32,7 +33,7 @@ judgedItem header at map kind = judgedItemForm at (itemForm map kind) >>= (λ k.
 
 pub readItem-is : (header : Header) (bytes : List ℕ) (at : ℕ) →
     readItem header bytes at ≡ (byte recordLength >>= (λ map. byte recordLength >>= judgedItem header at map)) bytes at
-unfolding readItem itemFields field _>>=_ rankField numberField cellField readActor readQueue readPlace readGiven
+unfolding readItemIn itemFields field _>>=_ rankField numberField lowField transitionField cellField readActor readQueue readPlace readGiven readHigh
 readItem-is header bytes at = refl
 
 -- Behind map and kind the verdict on both decides.
@@ -62,17 +63,17 @@ module _ (header : Header) (bytes : List ℕ) (at : ℕ) {first second : Field} 
   map-wrong v = by-form v refl
 
 -- A value is a word where its bit stands.
-given-is : (present : Bool) (item : Item) (bytes : List ℕ) (at : ℕ) →
-    (optional present Absent givenValue >>= (λ g. pure (withGiven item g))) bytes at
-    ≡ (valueField present >>= (λ v. pure (withGiven item (given present v)))) bytes at
+given-is : (present : Bool) (rest : Given → Reader Item) (bytes : List ℕ) (at : ℕ) →
+    (optional present Absent givenValue >>= rest) bytes at ≡ (valueField present >>= (λ v. rest (given present v))) bytes at
 unfolding _>>=_ valueField givenValue
-given-is true item bytes at = bind-assoc (word recordLength bytes at) _ _
-given-is false item bytes at = refl
+given-is true rest bytes at = bind-assoc (word recordLength bytes at) _ _
+given-is false rest bytes at = refl
 
-pub readGiven-is : (map : ℕ) (item : Item) (bytes : List ℕ) (at : ℕ) →
-    readGiven map item bytes at ≡ (valueField (bit 5 map) >>= (λ v. pure (withGiven item (given (bit 5 map) v)))) bytes at
+pub readGiven-is : (header : Header) (map : ℕ) (item : Item) (bytes : List ℕ) (at : ℕ) →
+    readGiven header map item bytes at
+    ≡ (valueField (bit 5 map) >>= (λ v. readHigh header map (withGiven item (given (bit 5 map) v)))) bytes at
 unfolding readGiven
-readGiven-is map item bytes at = given-is (bit 5 map) item bytes at
+readGiven-is header map item bytes at = given-is (bit 5 map) (λ g. readHigh header map (withGiven item g)) bytes at
 
 -- An item that was read, and one that was not.
 abbrev resultOf : ItemRead → Result (Found Item)

@@ -17,7 +17,7 @@ use Rattle.model.specs.Refusals as Refusals
 use Rattle.model.specs.Refusals.{Result, ok, refused, recordLength, recordRange}
 use Rattle.model.specs.Choice.{between}
 use Rattle.model.specs.Bytes.{Found, Reader, found, word, times}
-use Rattle.model.specs.Records.{readItem, readRecord}
+use Rattle.model.specs.Records.{readItem, readRecordIn, readRecord}
 use Rattle.model.proofs.Laws.{refused≢ok, ok-injective, bind-ok, bind-assoc, decided}
 use Rattle.model.proofs.Bytes.{judged-ok, word-next}
 use Rattle.fields.specs.declared.Field as Field
@@ -68,7 +68,7 @@ module _ (header : Header) (bytes : List ℕ) (at count : ℕ) where
 -- The definition of the whole record, with the end looked at behind the items.
 readRecord-is : (header : Header) (bytes : List ℕ) →
     readRecord header bytes ≡ Refusals._>>=_ (itemCount bytes 0) (λ f. itemsToEnd header (f .value) bytes (f .next))
-unfolding readRecord itemsToEnd itemCount
+unfolding readRecordIn itemsToEnd itemCount
 readRecord-is header bytes = bind-assoc (itemCount bytes 0) (λ f. times (f .value) (readItem header) bytes (f .next)) (toEnd bytes)
 
 -- Items that reach the end.

@@ -14,7 +14,7 @@ use Rattle.model.specs.Records.{givenValue}
 use Rattle.fields.specs.Fields.{_>>=_}
 use Rattle.record.specs.declared.item.ItemRead as ItemRead
 use Rattle.record.specs.declared.item.ItemRead.{ItemRead}
-use Rattle.record.specs.Optional.{rankField, numberField, cellField}
+use Rattle.record.specs.Optional.{rankField, numberField, lowField, transitionField, cellField}
 
 -- An item of which only the kind is known.
 abbrev pub bare : Kind → Item
@@ -42,18 +42,24 @@ abbrev pub given : (present : Bool) → (value : ℕ) → Given
 given true value = Value value
 given false value = Absent
 
--- The value, which ends the item.
-unfoldable pub readGiven : (map : ℕ) → Item → Reader Item
-readGiven map item = do
+-- The transition's high byte, which ends the item.
+unfoldable pub readHigh : Header → (map : ℕ) → Item → Reader Item
+readHigh header map item = do
+  transition ← transitionField (bit 7 map) (header .transitions) (item .transition)
+  pure (withActor item (item .rank) transition)
+
+-- The value and what follows it.
+unfoldable pub readGiven : Header → (map : ℕ) → Item → Reader Item
+readGiven header map item = do
   given ← optional (bit 5 map) Absent givenValue
-  pure (withGiven item given)
+  readHigh header map (withGiven item given)
 
 -- The place and what follows it.
 unfoldable pub readPlace : Header → (map : ℕ) → Item → Reader Item
 readPlace header map item = do
   rank ← rankField (bit 3 map) (header .ranks)
   cell ← cellField (bit 4 map) (header .cells)
-  readGiven map (withPlace item (record { rank = rank; cell = cell }))
+  readGiven header map (withPlace item (record { rank = rank; cell = cell }))
 
 -- The queue and what follows it.
 unfoldable pub readQueue : Header → (map : ℕ) → Item → Reader Item
@@ -61,12 +67,12 @@ readQueue header map item = do
   queue ← numberField (bit 2 map) (header .queues)
   readPlace header map (withQueue item queue)
 
--- Rank and transition, and all that follows them.
+-- Rank and transition's low byte, and all that follows them.
 unfoldable pub readActor : Header → (map : ℕ) → Item → Reader Item
 readActor header map item = do
   rank ← rankField (bit 0 map) (header .ranks)
-  transition ← numberField (bit 1 map) (header .transitions)
-  readQueue header map (withActor item rank transition)
+  low ← lowField (bit 1 map) (bit 7 map) (header .transitions)
+  readQueue header map (withActor item rank low)
 
 -- What the item reader answers, from what the definition finds.
 abbrev pub itemRead : Result (Found Item) → ItemRead

@@ -1,6 +1,8 @@
 // One item at a place: map and kind, then the fields whose bit stands, in bit order. Each function reads one or two fields into the item and hands it
 // on, so that an item is read once, front to back, and its first fault is the answer.
 use crate::optional::read_cell;
+use crate::optional::read_transition;
+use crate::optional::read_low_byte;
 use crate::optional::read_number;
 use crate::optional::read_rank;
 use crate::optional::read_value;
@@ -19,7 +21,7 @@ use model::refusals::RECORD_FORM;
 use model::refusals::RECORD_LENGTH;
 ghost use mathlib.Core.Path.{_≡_};
 ghost use Rattle.model.specs.Records.{readItem};
-ghost use Rattle.record.specs.Items.{bare, given, withGiven, itemRead, readActor, readQueue, readPlace, readGiven};
+ghost use Rattle.record.specs.Items.{bare, given, withGiven, itemRead, readActor, readQueue, readPlace, readGiven, readHigh};
 
 // What stands at a place: an item and the place after it, or the refusal.
 pub enum ItemRead {
@@ -66,7 +68,7 @@ fn bare(kind: Kind) -> Item
     }
 }
 
-// Behind map and kind: who does it, and by which transition.
+// Behind map and kind: who does it, and by which transition, or the low byte of its number.
 fn read_actor(bytes: &[u8], at: usize, header: Header, map: u16, mut item: Item) -> ItemRead
     ensures { λ r. ⌜ r ≡ itemRead (readActor header map item (now (bytes .entry)) at) ⌝ }
 {
@@ -74,12 +76,18 @@ fn read_actor(bytes: &[u8], at: usize, header: Header, map: u16, mut item: Item)
     let Field::Read(rank, second_at) = first else {
         return ItemRead::Refused(first.refusal());
     };
-    let second = read_number(bytes, second_at, bit(map, 1), header.transitions);
-    let Field::Read(transition, next) = second else {
+    let second = read_low_byte(
+        bytes,
+        second_at,
+        bit(map, 1),
+        bit(map, 7),
+        header.transitions,
+    );
+    let Field::Read(low, next) = second else {
         return ItemRead::Refused(second.refusal());
     };
     item.rank = rank;
-    item.transition = transition;
+    item.transition = low;
     read_queue(bytes, next, header, map, item)
 }
 
@@ -109,22 +117,43 @@ fn read_place(bytes: &[u8], at: usize, header: Header, map: u16, mut item: Item)
     };
     let place = Address { rank, cell };
     item.place = place;
-    read_given(bytes, next, map, item)
+    read_given(bytes, next, header, map, item)
 }
 
-// The value, which ends the item.
-fn read_given(bytes: &[u8], at: usize, map: u16, item: Item) -> ItemRead
-    ensures { λ r. ⌜ r ≡ itemRead (readGiven map item (now (bytes .entry)) at) ⌝ }
+// The value.
+fn read_given(bytes: &[u8], at: usize, header: Header, map: u16, item: Item) -> ItemRead
+    ensures { λ r. ⌜ r ≡ itemRead (readGiven header map item (now (bytes .entry)) at) ⌝ }
 {
     let present = bit(map, 5);
     let read = read_value(bytes, at, present);
     let Field::Read(value, next) = read else {
         return ItemRead::Refused(read.refusal());
     };
-    ItemRead::Read {
-        item: with_given(item, given(present, value)),
+    read_high(
+        bytes,
         next,
-    }
+        header,
+        map,
+        with_given(item, given(present, value)),
+    )
+}
+
+// The high byte of the transition's number, which ends the item.
+fn read_high(bytes: &[u8], at: usize, header: Header, map: u16, mut item: Item) -> ItemRead
+    ensures { λ r. ⌜ r ≡ itemRead (readHigh header map item (now (bytes .entry)) at) ⌝ }
+{
+    let read = read_transition(
+        bytes,
+        at,
+        bit(map, 7),
+        item.transition,
+        header.transitions,
+    );
+    let Field::Read(transition, next) = read else {
+        return ItemRead::Refused(read.refusal());
+    };
+    item.transition = transition;
+    ItemRead::Read { item, next }
 }
 
 // A value that was read, or none.

@@ -17,14 +17,14 @@ use Rattle.model.specs.Refusals.{ok, barrierRow, queuesLeft, recordLength, reco
 use Rattle.model.specs.Bytes.{Reader, word, judged, times}
 use Rattle.model.specs.ItemKinds.{hasPlace}
 use Rattle.model.specs.Programs.{Program, Command, Transition, HeaderFits, readProgram}
-use Rattle.model.specs.Records.{readItem, recordReader, readRecord}
+use Rattle.model.specs.Records.{readItem, recordReaderIn, recordReader, readRecordIn, readRecord}
 use Rattle.model.specs.Machine.{Access, put₂, Action, loads, stores, assigns, passes, issues, meets}
 use Rattle.model.specs.Machine.{Start, initial, moveTo, setRegister, setCell, setRequests, setDeliveries}
 use Rattle.model.specs.Replay.{Event, Replay, Taken, Replayed, joinsRow, openedAfter, originOf, accessOf, perform}
 use Rattle.model.specs.Replay.{takeItem, takeItems, sameAddress, agreesWith, begin, quiet, atEnd, replay}
 use Rattle.model.specs.HappensBefore.{At, rankOf}
 use Rattle.model.specs.Traces.{Each, all, one}
-use Rattle.model.specs.Checks.{Accepted, accept}
+use Rattle.model.specs.Checks.{Accepted, acceptIn, accept}
 use Rattle.model.proofs.Laws.{Within, decided, and-true, bind-ok, required, ok-injective, put₂-holds}
 use Rattle.model.proofs.Bytes.{Finds, finds-anything, finds-pure, finds-bind, finds-judged, finds-times, finds-weaker, whole-finds}
 use Rattle.model.proofs.Ranges.{Ranged, item-finds, header-fits}
@@ -252,13 +252,13 @@ times-counted (suc n) read =
 
 module _ (header : Header) (bytes : List ℕ) where
   pub read-ranged : {items : List Item} → readRecord header bytes ≡ ok items → Each (Ranged header bytes) items
-  unfolding readRecord recordReader
+  unfolding readRecordIn recordReaderIn
   read-ranged =
       whole-finds recordLength (recordReader header) bytes (Each (Ranged header bytes))
       (finds-bind (finds-anything (judged (λ n. leb n maxItems) recordRange (word recordLength))) λ count _. finds-times count (item-finds header))
 
   pub read-few : {items : List Item} → readRecord header bytes ≡ ok items → length items ≤ maxItems
-  unfolding readRecord recordReader
+  unfolding readRecordIn recordReaderIn
   read-few =
       whole-finds recordLength (recordReader header) bytes (λ items. length items ≤ maxItems)
       (finds-bind (finds-judged (λ n. leb n maxItems) recordRange (word recordLength)) λ count few.
@@ -271,7 +271,7 @@ pub record AcceptedBounds (a : Accepted) : Type 0 where
   pub bounds : Bounds (a .program .header) 0 (length (a .run .events)) (a .run)
 
 pub accepted-bounds : (start : Start) (program recorded : List ℕ) (a : Accepted) → accept start program recorded ≡ ok a → AcceptedBounds a
-unfolding accept
+unfolding acceptIn
 accepted-bounds start program recorded a h =
     let (P, read, h₁) = bind-ok (readProgram program) _ h in
     let (items, recorded-read, h₂) = bind-ok (readRecord (P .header) recorded) _ h₁ in

@@ -12,7 +12,7 @@ use Rattle.model.specs.Refusals.{Result, ok, refused}
 use Rattle.model.specs.Programs.{Program, readProgram}
 use Rattle.model.specs.Records.{readRecord}
 use Rattle.model.specs.Machine.{Start}
-use Rattle.model.specs.Checks.{accept}
+use Rattle.model.specs.Checks.{acceptIn, accept}
 use Rattle.model.proofs.Ranges.{header-fits}
 use Rattle.program.proofs.Programs.{Placed}
 use Rattle.record.specs.declared.reader.RecordRead as RecordRead
@@ -38,16 +38,16 @@ record-unreadable (refused y) h = cc
 -- The definition's `accept`, where the program or the record is refused, and where both are read.
 module _ (start : Start) (program recorded : List ℕ) where
   pub program-refused : {x : Refusal} → readProgram program ≡ refused x → accept start program recorded ≡ refused x
-  unfolding accept
+  unfolding acceptIn
   program-refused h = rw h
 
   module _ {P : Program} {header : Header} (read : readProgram program ≡ ok P) (same : P .header ≡ header) where
     pub record-refused : {x : Refusal} → readRecord header recorded ≡ refused x → accept start program recorded ≡ refused x
-    unfolding accept
+    unfolding acceptIn
     record-refused h = rw (read, same, h)
 
     pub record-read : {items : List Item} → readRecord header recorded ≡ ok items → accept start program recorded ≡ acceptItems P start items
-    unfolding accept acceptItems
+    unfolding acceptIn acceptItems
     record-read h = rw (read, same, h)
 
 -- A program that was read, with where its transitions start.

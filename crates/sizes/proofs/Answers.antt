@@ -10,13 +10,13 @@ use borrow.Author.Tests.{le-leb}
 use Rattle.model.specs.Limits.{maxRanks, maxCells, maxItems}
 use Rattle.model.specs.Refusals.{Result, ok, refused}
 use Rattle.model.specs.Machine.{Start, zeroStart}
-use Rattle.model.specs.Checks.{Accepted, Verdicts, accept, checkResult, outcome, outcomeBytes, check, checkBytes}
+use Rattle.model.specs.Checks.{Accepted, Verdicts, accept, checkResultIn, checkResult, outcome, outcomeBytes, checkIn, check, checkBytesIn, checkBytes}
 use Rattle.record_facts.proofs.Bounds.{accepted-bounds}
 use Rattle.sizes.specs.Texts.{answerOf, resultOf}
 
 module _ (start : Start) (program recorded : List ℕ) (groups cells : ℕ) (long : maxItems ≤ groups) (wide : maxRanks * maxCells ≤ cells) where
   result-is : (m : Result Accepted) → accept start program recorded ≡ m → checkResult start program recorded groups cells ≡ resultOf m
-  unfolding checkResult
+  unfolding checkResultIn
   result-is (refused r) h = rw h
   result-is (ok a) h =
       let b = accepted-bounds start program recorded a h in
@@ -42,12 +42,12 @@ module _ (program recorded order cells : List ℕ) where
 
   pub check-answers : maxItems ≤ length order → maxRanks * maxCells ≤ length cells →
       check program recorded order cells .answer ≡ answerOf accepted
-  unfolding check
+  unfolding checkIn
   check-answers long wide = answers-alike accepted (result-is zeroStart program recorded (length order) (length cells) long wide accepted refl)
 
   pub checkBytes-answers : 2 * maxItems ≤ length order → 2 * (maxRanks * maxCells) ≤ length cells →
       checkBytes program recorded order cells .answer ≡ answerOf accepted
-  unfolding checkBytes
+  unfolding checkBytesIn
   checkBytes-answers long wide =
       answers-alike-bytes accepted
       (result-is zeroStart program recorded (length order / 2) (length cells / 2) (omega (arith, long)) (omega (arith, wide)) accepted refl)

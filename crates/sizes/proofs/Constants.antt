@@ -17,7 +17,7 @@ use Rattle.model.specs.Expressions.{Expression, constant, register, ownRank, ra
 use Rattle.model.specs.Expressions.{Token, constantToken, registerToken, ownRankToken, rankCountToken, operatorToken, tokens}
 use Rattle.model.specs.Expressions.{Counted, noTokenLeft, afterToken, onToken, readExpression, expression}
 use Rattle.model.specs.Programs.{Program, Command, load, store, assign, assume, read, write, bar, Fields, CommandForm, forms, judgedForm}
-use Rattle.model.specs.Programs.{readHeader, readFields, readTransition, programReader, readProgram}
+use Rattle.model.specs.Programs.{readHeader, readFields, readTransition, programReaderIn, programReader, readProgramIn, readProgram}
 use Rattle.model.specs.Traces.{Each, all, one}
 use Rattle.model.proofs.Laws.{decided, refused≢ok}
 use Rattle.model.proofs.Bytes.{Finds, finds-anything, finds-pure, finds-bind, finds-times, finds-word, whole-finds}
@@ -153,7 +153,7 @@ module _ (bytes : List ℕ) (bound : AreBytes bytes) where
 
   -- So every value of a command of a program that was read.
   pub values-fit : {P : Program} → readProgram bytes ≡ ok P → Each (λ t. ValueFits (t .command)) (P .transitions)
-  unfolding readProgram programReader
+  unfolding readProgramIn programReaderIn
   values-fit =
       whole-finds programLength programReader bytes (λ P. Each (λ t. ValueFits (t .command)) (P .transitions))
       (finds-bind (finds-anything readHeader) λ header _.

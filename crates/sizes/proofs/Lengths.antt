@@ -134,7 +134,7 @@ cell-lines-short ranks width cells few narrow fits =
       mul-le-mul few (mul-le-mul-right 16 narrow),
     )
 
--- `refused 15 16390`.
+-- `refused 15 51208`.
 pub refused-line-short : (r : Refusal) → RefusalFits r → length (refusedLine r) ≤ 17
 unfolding refusedLine
 refused-line-short r fits =

@@ -13,7 +13,7 @@ use Rattle.model.specs.Bytes.{AreBytes}
 use Rattle.model.specs.Machine.{Start, zeroStart}
 use Rattle.model.specs.Orders.{Verdict}
 use Rattle.model.specs.Checks.{Accepted, accept, verdictOn, listed, rankByRank, fill}
-use Rattle.model.specs.Listings.{listing, printed, printedOf, listingOf, line, verdictWord, decimal, groupLines, cellLine, join}
+use Rattle.model.specs.Listings.{listingIn, listing, printed, printedOf, listingOf, line, verdictWord, decimal, groupLines, cellLine, join}
 use Rattle.ordering.proofs.Runs.{Listed, run-lists}
 use Rattle.record_facts.proofs.Bounds.{AcceptedBounds, accepted-bounds}
 use Rattle.sizes.specs.Sizes.{maxListingBytes}
@@ -79,6 +79,6 @@ pub listing-whole : (program recorded memory : List ℕ) → AreBytes program �
       result = record { answer = answerOf (accept zeroStart program recorded); length = length (textOf (accept zeroStart program recorded)) };
       memory = fill (textOf (accept zeroStart program recorded)) memory;
     }
-unfolding listing
+unfolding listingIn
 listing-whole program recorded memory bound enough =
     printed-whole memory (accept zeroStart program recorded) (omega (arith, text-short program recorded bound, enough))

@@ -7,10 +7,10 @@ use native.Mathlib.Omega.{arith}
 use Rattle.model.specs.declared.Header.{Header}
 use Rattle.model.specs.declared.Refusal.{Refusal}
 use Rattle.model.specs.Refusals.{refused, programLength, recordLength, memoryTooShort}
-use Rattle.model.specs.Programs.{readProgram}
-use Rattle.model.specs.Records.{readRecord}
+use Rattle.model.specs.Programs.{readProgramIn, readProgram}
+use Rattle.model.specs.Records.{readRecordIn, readRecord}
 use Rattle.model.specs.Machine.{Start}
-use Rattle.model.specs.Checks.{accept, checkResult}
+use Rattle.model.specs.Checks.{acceptIn, accept, checkResultIn}
 use Rattle.model.proofs.Laws.{between-true}
 use Rattle.record_facts.proofs.Bounds.{read-few}
 use Rattle.demands.proofs.Refusals.{check-tabled}
@@ -25,16 +25,16 @@ pub record RefusalFits (r : Refusal) : Type 0 where
   pub place : r .place ≤ maxProgramBytes
 
 program-placed : (bytes : List ℕ) → Placed maxProgramBytes (readProgram bytes)
-unfolding readProgram
+unfolding readProgramIn
 program-placed = whole-placed programLength maxProgramBytes program-takes
 
 record-placed : (header : Header) (bytes : List ℕ) → Placed maxRecordBytes (readRecord header bytes)
-unfolding readRecord
+unfolding readRecordIn
 record-placed header = whole-placed recordLength maxRecordBytes (record-takes header)
 
 module _ (start : Start) (program recorded : List ℕ) where
   accept-placed : Placed maxProgramBytes (accept start program recorded)
-  unfolding accept
+  unfolding acceptIn
   accept-placed =
       placed-bind (program-placed program) λ P _.
       placed-bind (placed-later (omega arith) (record-placed (P .header) recorded)) λ items read.
@@ -42,7 +42,7 @@ module _ (start : Start) (program recorded : List ℕ) where
       placed-ok _
 
   pub refusal-fits : (r : Refusal) → accept start program recorded ≡ refused r → RefusalFits r
-  unfolding checkResult
+  unfolding checkResultIn
   refusal-fits r h =
       record {
         number = between-true _ _ _ (check-tabled start program recorded 0 0 .row r (rw h)) .high;

@@ -16,7 +16,7 @@ use Rattle.model.specs.Machine.{State, Delivery, Action, loads, stores, assigns
 use Rattle.model.specs.Machine.{Start, initial, moveTo, setRegister, setCell, setRequests, setDeliveries}
 use Rattle.model.specs.Replay.{Origin, Replay, Taken, Replayed, perform, takeItem, takeItems, begin, quiet, atEnd, replay}
 use Rattle.model.specs.Traces.{Each, all, one}
-use Rattle.model.specs.Checks.{Accepted, accept}
+use Rattle.model.specs.Checks.{Accepted, acceptIn, accept}
 use Rattle.model.proofs.Laws.{bind-ok, required, ok-injective, put₂-holds}
 use Rattle.model.proofs.Ranges.{Ranged, header-fits}
 use Rattle.model.proofs.Actions.{Asks, loading, storing, assigning, passing, reading, writing, meeting, action-asks}
@@ -134,7 +134,7 @@ module _ (P : Program) (few : Fits (P .header .ranks)) where
 -- The last cells of an accepted record.
 pub cells-fit : (start : Start) (program recorded : List ℕ) {a : Accepted} → ((rank cell : ℕ) → start rank cell < wordValues) → AreBytes program →
     accept start program recorded ≡ ok a → (rank cell : ℕ) → a .run .last .machine .cells rank cell < wordValues
-unfolding accept
+unfolding acceptIn
 cells-fit start program recorded begun bound h =
     let (P, read, h₁) = bind-ok (readProgram program) _ h in
     let (items, recorded-read, h₂) = bind-ok (readRecord (P .header) recorded) _ h₁ in

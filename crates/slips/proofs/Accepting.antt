@@ -8,7 +8,7 @@ use Rattle.model.specs.declared.Refusal.{Refusal}
 use Rattle.model.specs.Refusals as Refusals
 use Rattle.model.specs.Refusals.{Result, ok}
 use Rattle.model.specs.Checks.{Accepted, accept}
-use Rattle.model.specs.Slips.{Lent, lend, slipOf, writeSlip}
+use Rattle.model.specs.Slips.{Lent, lend, slipOf, writeSlipIn, writeSlip}
 use Rattle.memory.specs.Tables.{cellsSize, zeros}
 use Rattle.memory.specs.Copies.{startIn}
 use Rattle.memory.proofs.Stores.{zero-start}
@@ -27,7 +27,7 @@ module _ (program recorded : List ℕ) {before after : Handed.Lent} {r : Accepta
     (handed : HandsOver (accept (startIn (zeros cellsSize)) program recorded) before after r) (slip : List ℕ) where
   written : (m : Result Accepted) → accept (startIn (zeros cellsSize)) program recorded ≡ m →
       lend slip (Refusals._>>=_ m (λ a. ok (slipOf a))) ≡ writeSlip program recorded slip
-  unfolding writeSlip
+  unfolding writeSlipIn
   written m is =
       ap (λ n. lend slip (Refusals._>>=_ n (λ a. ok (slipOf a)))) (sym is ∙ ap (λ start. accept start program recorded) zero-start)
 

@@ -19,7 +19,7 @@ use Rattle.model.specs.Machine.{Start, put}
 use Rattle.model.specs.Replay.{Event, Replay, Taken, Replayed, begin, takeItem, takeItems, quiet, atEnd, replay}
 use Rattle.model.specs.HappensBefore.{isCommand, rankOf}
 use Rattle.model.specs.Traces.{commandOf}
-use Rattle.model.specs.Checks.{Accepted, accept}
+use Rattle.model.specs.Checks.{Accepted, acceptIn, accept}
 use Rattle.model.proofs.Laws.{decided, bind-ok, required, ok-injective}
 use Rattle.model.proofs.Selections.{select-none}
 use Rattle.model.proofs.Replay.{ItemTaken, commands, fetches, delivers, item-taken}
@@ -96,7 +96,7 @@ and-no false e = refl
 -- An accepted record.
 module _ (start : Start) (program recorded : List ℕ) (a : Accepted) (accepted : accept start program recorded ≡ ok a) where
   pub commands-counted : (rank : ℕ) → a .run .last .taken rank ≡ countOf rank (a .run .events)
-  unfolding accept
+  unfolding acceptIn
   commands-counted rank =
       let (P, read, h₁) = bind-ok (readProgram program) _ accepted in
       let (items, recorded-read, h₂) = bind-ok (readRecord (P .header) recorded) _ h₁ in

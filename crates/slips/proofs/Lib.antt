@@ -6,6 +6,5 @@ pub mod Accepting
 pub mod Reading
 pub mod Turns
 pub mod Answering
-pub mod Standing
 pub mod RoundTrip
 pub mod SlipTheorems

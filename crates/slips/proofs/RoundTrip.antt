@@ -25,7 +25,7 @@ use Rattle.rank_counts.specs.Counts.{countFor}
 use Rattle.rank_counts.proofs.RankMaps.{held, mapTo, map-fits, map-bit, map-is}
 use Rattle.slips.specs.Reading.{countReader, mapReader}
 use Rattle.slips.proofs.Reading.{map-read}
-use Rattle.slips.proofs.Standing.{byte-stands, word-read, behind-word, word-stands}
+use Rattle.model.proofs.Standing.{byte-stands, word-read, behind-word, word-stands}
 use Rattle.slips.proofs.Answering.{whole-length}
 
 -- The slip of the ranks up to N.

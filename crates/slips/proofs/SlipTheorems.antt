@@ -16,7 +16,7 @@ use Rattle.model.specs.Choice.{between, numbersFrom}
 use Rattle.model.specs.Bytes.{AreBytes, whole}
 use Rattle.model.specs.Machine.{Start, zeroStart}
 use Rattle.model.specs.Checks.{Accepted, accept, fill}
-use Rattle.model.specs.Slips.{Lent, lend, slipOf, writeSlip, slipReader, readSlip}
+use Rattle.model.specs.Slips.{Lent, lend, slipOf, writeSlipIn, writeSlip, slipReader, readSlip}
 use Rattle.model.proofs.Laws.{decided, required, ok-injective, true-between}
 use Rattle.memory.proofs.Filled.{numbers-length}
 use Rattle.record_facts.specs.Facts.{countOf}
@@ -79,7 +79,7 @@ pub written-read-back : (program recorded memory : List ℕ) (a : Accepted) → 
     writeSlip program recorded memory .answer ≡ Filled.Entries n → (counts : List ℕ) → a .program .header .ranks ≤ length counts →
     readSlip (a .program .header .ranks) (take n (writeSlip program recorded memory .memory)) counts
     ≡ answering (Filled.Entries (a .program .header .ranks)) (fill (commandCounts a) counts)
-unfolding writeSlip
+unfolding writeSlipIn
 written-read-back program recorded memory a accepted {n} h counts room =
     let written = filling memory (Refusals._>>=_ (accept zeroStart program recorded) (λ a. ok (slipOf a))) h in
     let slip : slipOf a ≡ written .entries = ok-injective (sym (ap (λ m. Refusals._>>=_ m (λ a. ok (slipOf a))) accepted) ∙ written .is) in

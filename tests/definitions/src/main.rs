@@ -28,9 +28,10 @@ use mathlib.Core.List.{List, [], _∷_, _++_}
 use lib.ListN.{replicate}
 use Rattle.model.specs.declared.Answer.{Answer}
 use Rattle.model.specs.declared.Filled.{Filled}
-use Rattle.model.specs.Checks.{check, checkBytes}
-use Rattle.model.specs.Slips.{writeSlip, readSlip}
-use Rattle.model.specs.Listings.{listing}
+use Rattle.model.specs.Formats.{itemMaps}
+use Rattle.model.specs.Checks.{checkIn, check, checkBytesIn, checkBytes}
+use Rattle.model.specs.Slips.{writeSlipIn, writeSlip, readSlip}
+use Rattle.model.specs.Listings.{listingIn, listing}
 ";
 
 /// A theorem and the name of its case.
@@ -70,6 +71,14 @@ fn copy_model(from: &Path, to: &Path) -> Result<(), String> {
     Ok(())
 }
 
+/// What a definition computes by: all but the slip's reader are those of today's format.
+fn unfolded(definition: &str) -> String {
+    match definition {
+        "readSlip" => definition.to_string(),
+        _ => format!("itemMaps {definition}In"),
+    }
+}
+
 /// The text of a file of theorems.
 fn file_of(theorems: &[Named]) -> String {
     let mut text = String::from(HEAD);
@@ -77,7 +86,7 @@ fn file_of(theorems: &[Named]) -> String {
         let (definition, arguments) = (theorem.definition, &theorem.arguments);
         text += &format!("\n-- {name}\n");
         text += &format!("case{i} : {definition} {arguments} ≡ {}\n", theorem.result);
-        text += &format!("unfolding {definition}\ncase{i} = refl\n");
+        text += &format!("unfolding {}\ncase{i} = refl\n", unfolded(definition));
     }
     text
 }

@@ -3,13 +3,14 @@ use borrow.Author.Tests.{ne-eqb}
 use Rattle.model.specs.declared.Kind.the-variants.{Load, Store, Assign, Assume, Read, Write, Popa, Popb, Bar}
 use Rattle.model.specs.Choice.{lookup}
 use Rattle.model.specs.ItemKinds.{itemKinds}
-use Rattle.model.specs.ItemForms.{itemMaps, formOf, itemForm}
+use Rattle.model.specs.Formats.{itemMaps}
+use Rattle.model.specs.ItemForms.{formOf, itemFormIn}
 use Rattle.item_forms.proofs.Forms.{listed, unlisted}
 use Rattle.item_forms.proofs.item_form.Statement.{statement}
 use Rattle.item_forms.proofs.item_form.Tie as tie
 
 unknown : tie.Need-returns-19
-unfolding itemForm formOf lookup itemKinds
+unfolding itemFormIn formOf lookup itemKinds
 unknown c =
     let (((((((((_, n₁), n₂), n₃), n₄), n₅), n₆), n₇), n₈), n₉) = c .match .rest in
     rw (

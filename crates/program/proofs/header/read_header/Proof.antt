@@ -1,6 +1,6 @@
--- `read_header`: three pairs of numbers; each way through the function is one law of `Headers`. Assumes nothing.
+-- `read_header`: two pairs of numbers and the control numbers; each way through the function is one law of `Headers`. Assumes nothing.
 use borrow.Author.Needs.{needs}
-use Rattle.program.proofs.Headers.{no-machine, no-held, no-control, header-found}
+use Rattle.program.proofs.Headers.{no-machine, no-held, with-control}
 use Rattle.program.proofs.header.read_header.Statement.{statement}
 use Rattle.program.proofs.header.read_header.Tie as tie
 
@@ -17,21 +17,11 @@ returns-2 c =
 
 returns-3 : tie.Need-returns-3
 returns-3 c =
-    let control = c .before .before .before in
-    let heldRead = control .before .before in
+    let heldRead = c .before .before in
     let held = heldRead .before .before in
     let machine = held .before .before in
-    no-control _ (machine .before .before .two-numbers .ensures) (machine .machine2 .given .1) (held .two-numbers2 .ensures)
-    (heldRead .held2 .given .1) (control .two-numbers3 .ensures) (c .before .control .given .1)
-
-returns-4 : tie.Need-returns-4
-returns-4 c =
-    let control = c .before .before .before in
-    let heldRead = control .before .before in
-    let held = heldRead .before .before in
-    let machine = held .before .before in
-    header-found _ (machine .before .before .two-numbers .ensures) (machine .machine2 .given .1) (held .two-numbers2 .ensures)
-    (heldRead .held2 .given .1) (control .two-numbers3 .ensures) (c .before .control2 .given .1)
+    with-control _ (machine .before .before .two-numbers .ensures) (machine .machine2 .given .1) (held .two-numbers2 .ensures)
+    (heldRead .held2 .given .1) (c .read-control .ensures)
 
 pub read-header-spec : {M : Type 1} → statement M
 read-header-spec =
@@ -47,12 +37,7 @@ read-header-spec =
     (λ c κs. search needs)
     (λ c. search needs)
     (λ c. search needs)
-    (λ c. search needs)
-    (λ c. search needs)
     (λ c κs. search needs)
-    (λ c. search needs)
-    (λ c. search needs)
     returns
     returns-2
-    returns-3
-    returns-4)
+    returns-3)

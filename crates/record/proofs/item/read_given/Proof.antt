@@ -1,4 +1,4 @@
--- `read_given`: the value is a field like any other, and ends the item. Assumes nothing.
+-- `read_given`: the value is a field like any other. Assumes nothing.
 use borrow.Author.Needs.{needs}
 use Rattle.fields.proofs.Fields.{field-stops, field-goes-on}
 use Rattle.record.specs.Items.{itemRead}
@@ -14,11 +14,14 @@ no-value c =
 
 value : tie.Need-returns-2
 value c =
-    let atRead = c .before .before .before in
+    let atItem = c .before in
+    let atRead = atItem .before .before .before in
     let atValue = atRead .before .before in
     let present = atValue .before .bit .ensures in
     let read = rw present at (atValue .read-value .ensures) in
-    rw readGiven-is (field-goes-on itemRead _ _ _ _ read (atRead .read .given .1) (rw (c .with-given .ensures, c .before .given .ensures, present)))
+    rw readGiven-is
+    (field-goes-on itemRead _ _ _ _ read (atRead .read .given .1)
+    (rw (atItem .with-given .ensures, atItem .before .given .ensures, present) at (c .read-high .ensures)))
 
 pub read-given-spec : {M : Type 1} → statement M
 read-given-spec =
@@ -30,6 +33,7 @@ read-given-spec =
     (λ c. search needs)
     (λ c κs. search needs)
     no-value
+    (λ c κs. search needs)
     (λ c κs. search needs)
     (λ c κs. search needs)
     value)

@@ -9,9 +9,9 @@ there : tie.Need-returns
 unfolding cellField
 there c =
     let atField = c .before in
-    present-field _ _ _ (atField .before .if1 .taken) (judged-read _ _ _ _ _ (atField .read-word .ensures) (c .below .ensures))
+    present-field _ _ _ _ (atField .before .if1 .taken) (judged-read _ _ _ _ _ (atField .read-word .ensures) (c .below .ensures))
 
 pub read-cell-spec : {M : Type 1} → statement M
 unfolding cellField
 read-cell-spec =
-    tie.close (tie.spec (λ c κs. search needs) (λ c κs. search needs) there (λ c. absent-field _ _ _ (c .if1 .left)))
+    tie.close (tie.spec (λ c κs. search needs) (λ c κs. search needs) there (λ c. absent-field _ _ _ _ (c .if1 .left)))

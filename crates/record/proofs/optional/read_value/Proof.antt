@@ -11,5 +11,5 @@ read-value-spec =
     tie.close
     (tie.spec
     (λ c κs. search needs)
-    (λ c. present-field _ _ _ (c .before .if1 .taken) (c .read-word .ensures))
-    (λ c. absent-field _ _ _ (c .if1 .left)))
+    (λ c. present-field _ _ _ _ (c .before .if1 .taken) (c .read-word .ensures))
+    (λ c. absent-field _ _ _ _ (c .if1 .left)))

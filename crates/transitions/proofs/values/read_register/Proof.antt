@@ -9,5 +9,5 @@ read-register-spec =
     tie.close
     (tie.spec
     (λ c κs. search needs)
-    (λ c. present-field _ _ _ (c .before .if1 .taken) (c .read-below .ensures))
-    (λ c. absent-field _ _ _ (c .if1 .left)))
+    (λ c. present-field _ _ _ _ (c .before .if1 .taken) (c .read-below .ensures))
+    (λ c. absent-field _ _ _ _ (c .if1 .left)))

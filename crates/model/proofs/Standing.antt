@@ -9,12 +9,12 @@ use lib.Arith.{digits-div, digits-mod}
 use lib.Dec.{ltb}
 use lib.ListN.{length, getD, drop}
 use lib.Seq.{drop-cons}
-use borrow.Author.Tests.{lt-ltb, ltb-true}
+use borrow.Author.Tests.{ltb-true}
 use Rattle.model.specs.Limits.{byteValues}
 use Rattle.model.specs.Refusals.{ok}
 use Rattle.model.specs.Bytes.{AreBytes, Found, found, byte, word}
 use Rattle.model.proofs.Laws.{decided, bind-ok, ok-injective, refused≢ok}
-use Rattle.model.proofs.Bytes.{byte-ok, word-is}
+use Rattle.model.proofs.Bytes.{byte-ok, byte-there, word-is}
 
 -- The first of the bytes from a place on.
 record First (bytes : List ℕ) (at x : ℕ) (more : List ℕ) : Type 0 where
@@ -35,10 +35,6 @@ first (y ∷ bytes) (suc at) e =
     let behind : suc at + 1 ≡ suc (at + 1) = omega arith in
     record { inside = omega (arith, rest .inside); is = rest .is; next = ap (λ n. drop n (y ∷ bytes)) behind ∙ rest .next }
 
-byte-inside : (early : ℕ) (bytes : List ℕ) (at : ℕ) → at < length bytes → byte early bytes at ≡ found (getD bytes at 0) (at + 1)
-unfolding byte
-byte-inside early bytes at h = rw (lt-ltb at (length bytes) h)
-
 inside-byte : (early : ℕ) (bytes : List ℕ) (at : ℕ) {f : Found ℕ} → byte early bytes at ≡ ok f → at < length bytes
 unfolding byte
 inside-byte early bytes at h =
@@ -50,7 +46,7 @@ pub word-read : (early : ℕ) (bytes : List ℕ) (at n : ℕ) {more : List ℕ} 
 word-read early bytes at n e =
     let high = first bytes at e in
     let low = first bytes (at + 1) (high .next) in
-    rw (word-is early, byte-inside early bytes at (high .inside), byte-inside early bytes (at + 1) (low .inside), high .is, low .is)
+    rw (word-is early, byte-there early bytes at (high .inside), byte-there early bytes (at + 1) (low .inside), high .is, low .is)
     (ap (λ v. found v (at + 1 + 1)) (div-add-mod' n byteValues))
 
 pub behind-word : (bytes : List ℕ) (at : ℕ) {x y : ℕ} {more : List ℕ} → drop at bytes ≡ x ∷ y ∷ more → drop (at + 1 + 1) bytes ≡ more

@@ -1,0 +1,182 @@
+-- A wider format keeps what a narrower one reads: the same program, the same items, so an accepted record's answer, lists, slip and listing. Today's
+-- is wider than document 01's, so "Old programs and records keep their bytes and meaning" (document 02, #107).
+--
+-- A reader that goes by the narrower format is kept by the one that goes by the wider: whatever the first finds, the second finds there. There is a
+-- rule for each way in which readers are put together.
+use Prim.Native.Nat.{ℕ, zero, suc, _+_, _/_, _≤_}
+use mathlib.Core.Path.{_≡_, refl}
+use mathlib.Core.Bool.{Bool, true, false}
+use mathlib.Core.List.{List, _∷_}
+use mathlib.Core.Option.{Option, some, none}
+use native.Mathlib.Omega.{arith}
+use lib.Dec.{ltb, leb, eqb}
+use lib.ListN.{length}
+use borrow.Author.Tests.{lt-ltb, ltb-true}
+use Rattle.model.specs.declared.Header.{Header}
+use Rattle.model.specs.declared.Item.{Item}
+use Rattle.model.specs.declared.Kind.{Kind}
+use Rattle.model.specs.Limits.{maxRanks, maxCells, maxRegisters, maxQueues, maxStates, shortTransitions, longCount, maxItems}
+use Rattle.model.specs.Refusals as Refusals
+use Rattle.model.specs.Refusals.{ok, programLength, programRange, recordLength, recordRange}
+use Rattle.model.specs.Choice.{between, lookup, member}
+use Rattle.model.specs.Bytes.{Found, Reader, _>>=_, here, byte, word, judged, optional, times, whole}
+use Rattle.model.specs.ItemKinds.{itemKinds}
+use Rattle.model.specs.Formats.{Format, document01, today, original}
+use Rattle.model.specs.Programs.{Program, headerNumber, countByte, transitionCount, readHeaderIn, readTransition, programReaderIn, readProgramIn}
+use Rattle.model.specs.ItemForms.{formOf, itemFormIn, judgedItemForm}
+use Rattle.model.specs.Records.{itemFields, readItemIn, recordReaderIn, readRecordIn}
+use Rattle.model.specs.Machine.{Start, zeroStart}
+use Rattle.model.specs.Replay.{replay}
+use Rattle.model.specs.Checks.{Accepted, acceptIn, checkResultIn, checkIn, checkBytesIn}
+use Rattle.model.specs.Slips.{writeSlipIn}
+use Rattle.model.specs.Listings.{listingIn}
+use Rattle.model.proofs.Laws.{refused≢ok, bind-ok, decided, between-true, true-between, eqb-refl}
+use Rattle.model.proofs.Bytes.{judged-ok, times-none, times-more, whole-ok}
+use Rattle.model.proofs.ItemForms.{original-maps, today-maps}
+
+-- As many transitions at least, and every map.
+pub record Extends (old new : Format) : Type 0 where
+  pub transitions : old .transitions ≤ new .transitions
+  pub maps : (kind : Kind) (map : ℕ) → member map (old .maps kind) ≡ true → member map (new .maps kind) ≡ true
+
+pub today-extends : Extends document01 today
+today-extends =
+    record { transitions = omega arith; maps = λ kind map h. today-maps .listed (original (original-maps .only kind map h)) }
+
+-- What the first reader finds, the second finds there.
+record Keeps {A : Type 0} (first second : Reader A) : Type 0 where
+  kept : (bytes : List ℕ) (at : ℕ) (f : Found A) → first bytes at ≡ ok f → second bytes at ≡ ok f
+
+keeps-same : {A : Type 0} (read : Reader A) → Keeps read read
+keeps-same read = record { kept = λ bytes at f h. h }
+
+keeps-bind : {A B : Type 0} {first second : Reader A} {rest after : A → Reader B} → Keeps first second → ((a : A) → Keeps (rest a) (after a)) →
+    Keeps (first >>= rest) (second >>= after)
+keeps-bind {first = first} keeps then =
+    record {
+      kept =
+          λ bytes at g h.
+          let (f, e, h₁) = bind-ok (first bytes at) _ h in
+          rw (keeps .kept bytes at f e) (then (f .value) .kept bytes (f .next) g h₁);
+    }
+
+keeps-judged : (test weaker : ℕ → Bool) (number : ℕ) (read : Reader ℕ) → ((n : ℕ) → test n ≡ true → weaker n ≡ true) →
+    Keeps (judged test number read) (judged weaker number read)
+unfolding judged
+keeps-judged test weaker number read passes =
+    record {
+      kept =
+          λ bytes at f h.
+          let (e, t) = judged-ok test number read bytes at h in
+          rw (e, passes (f .value) t);
+    }
+
+keeps-optional : {A : Type 0} (present : Bool) (absent : A) {first second : Reader A} → Keeps first second →
+    Keeps (optional present absent first) (optional present absent second)
+keeps-optional true absent keeps = keeps
+keeps-optional false absent keeps = keeps-same _
+
+keeps-times : {A : Type 0} (n : ℕ) {first second : Reader A} → Keeps first second → Keeps (times n first) (times n second)
+unfolding times
+keeps-times zero keeps = keeps-same _
+keeps-times (suc n) keeps = keeps-bind keeps λ a. keeps-bind (keeps-times n keeps) λ rest. keeps-same _
+
+keeps-whole : {A : Type 0} (left : ℕ) {first second : Reader A} → Keeps first second → (bytes : List ℕ) {a : A} → whole left first bytes ≡ ok a →
+    whole left second bytes ≡ ok a
+unfolding whole
+keeps-whole left {first} keeps bytes h = rw (keeps .kept bytes 0 _ (whole-ok left first bytes h), eqb-refl (length bytes))
+
+module _ {old new : Format} (wider : Extends old new) where
+  -- The program.
+  byte-kept : (n : ℕ) → countByte (old .transitions) n ≡ true → countByte (new .transitions) n ≡ true
+  byte-kept n h =
+      decided (eqb n longCount)
+      (λ t. rw t (lt-ltb shortTransitions (new .transitions) (omega (arith, wider .transitions, ltb-true shortTransitions (old .transitions) (rw t at h)))))
+      (λ t. rw t (rw t at h))
+
+  range-kept : (n : ℕ) → between (shortTransitions + 1) (old .transitions) n ≡ true → between (shortTransitions + 1) (new .transitions) n ≡ true
+  range-kept n h =
+      let within = between-true (shortTransitions + 1) (old .transitions) n h in
+      true-between (shortTransitions + 1) (new .transitions) n
+      (record { low = within .low; high = omega (arith, within .high, wider .transitions) })
+
+  count-kept : Keeps (transitionCount (old .transitions)) (transitionCount (new .transitions))
+  unfolding transitionCount
+  count-kept =
+      keeps-bind (keeps-judged (countByte (old .transitions)) (countByte (new .transitions)) programRange (byte programLength) byte-kept) λ count.
+      keeps-optional (eqb count longCount) count
+      (keeps-judged (between (shortTransitions + 1) (old .transitions)) (between (shortTransitions + 1) (new .transitions)) programRange
+      (word programLength) range-kept)
+
+  header-kept : Keeps (readHeaderIn old) (readHeaderIn new)
+  unfolding readHeaderIn
+  header-kept =
+      keeps-bind (keeps-same (headerNumber 1 maxRanks)) λ ranks.
+      keeps-bind (keeps-same (headerNumber 1 maxCells)) λ cells.
+      keeps-bind (keeps-same (headerNumber 1 maxRegisters)) λ registers.
+      keeps-bind (keeps-same (headerNumber 1 maxQueues)) λ queues.
+      keeps-bind (keeps-same (headerNumber 1 maxStates)) λ states.
+      keeps-bind count-kept λ transitions.
+      keeps-same _
+
+  pub program-kept : (bytes : List ℕ) {P : Program} → readProgramIn old bytes ≡ ok P → readProgramIn new bytes ≡ ok P
+  unfolding readProgramIn programReaderIn
+  program-kept =
+      keeps-whole programLength (keeps-bind header-kept λ header. keeps-same _)
+
+  -- The record.
+  form-kept : (at map : ℕ) (kind : Option Kind) → Keeps (judgedItemForm at (formOf old map kind)) (judgedItemForm at (formOf new map kind))
+  unfolding formOf judgedItemForm
+  form-kept at map none = keeps-same _
+  form-kept at map (some kind) =
+      decided (member map (old .maps kind))
+      (λ t. rw (t, wider .maps kind map t) (keeps-same _))
+      (λ t. rw t (record { kept = λ bytes next f h. absurd (refused≢ok h) }))
+
+  item-kept : (header : Header) → Keeps (readItemIn old header) (readItemIn new header)
+  unfolding readItemIn itemFormIn
+  item-kept header =
+      keeps-bind (keeps-same here) λ at.
+      keeps-bind (keeps-same (byte recordLength)) λ map.
+      keeps-bind (keeps-same (byte recordLength)) λ number.
+      keeps-bind (form-kept at map (lookup number itemKinds)) λ kind.
+      keeps-same _
+
+  pub record-kept : (header : Header) (bytes : List ℕ) {items : List Item} → readRecordIn old header bytes ≡ ok items →
+      readRecordIn new header bytes ≡ ok items
+  unfolding readRecordIn recordReaderIn
+  record-kept header =
+      keeps-whole recordLength
+      (keeps-bind (keeps-same (judged (λ n. leb n maxItems) recordRange (word recordLength))) λ count. keeps-times count (item-kept header))
+
+  -- An accepted record of a readable program.
+  module _ (program recorded : List ℕ) {a : Accepted} where
+    pub accepted-kept : (start : Start) → acceptIn old start program recorded ≡ ok a → acceptIn new start program recorded ≡ ok a
+    unfolding acceptIn
+    accepted-kept start h =
+        let (P, read, h₁) = bind-ok (readProgramIn old program) _ h in
+        let (items, told, h₂) = bind-ok (readRecordIn old (P .header) recorded) _ h₁ in
+        rw (program-kept program read, record-kept (P .header) recorded told) h₂
+
+    -- Its answer, lists, slip and listing, for whatever lent memory.
+    module _ (accepted : acceptIn old zeroStart program recorded ≡ ok a) where
+      result-kept : (orderLength cellsLength : ℕ) →
+          checkResultIn new zeroStart program recorded orderLength cellsLength ≡ checkResultIn old zeroStart program recorded orderLength cellsLength
+      unfolding checkResultIn
+      result-kept orderLength cellsLength = rw (accepted, accepted-kept zeroStart accepted)
+
+      pub check-kept : (order cells : List ℕ) → checkIn new program recorded order cells ≡ checkIn old program recorded order cells
+      unfolding checkIn
+      check-kept order cells = rw (result-kept (length order) (length cells))
+
+      pub entry-kept : (order cells : List ℕ) → checkBytesIn new program recorded order cells ≡ checkBytesIn old program recorded order cells
+      unfolding checkBytesIn
+      entry-kept order cells = rw (result-kept (length order / 2) (length cells / 2))
+
+      pub slip-kept : (memory : List ℕ) → writeSlipIn new program recorded memory ≡ writeSlipIn old program recorded memory
+      unfolding writeSlipIn
+      slip-kept memory = rw (accepted, accepted-kept zeroStart accepted)
+
+      pub listing-kept : (memory : List ℕ) → listingIn new program recorded memory ≡ listingIn old program recorded memory
+      unfolding listingIn
+      listing-kept memory = rw (accepted, accepted-kept zeroStart accepted)
