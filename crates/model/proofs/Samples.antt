@@ -124,3 +124,20 @@ overtaking =
     popItem 7 1 ∷
     popItem 8 1 ∷
     popItem 8 3 ∷ [])
+
+-- Document 02, #107. N = 1: so many bars from state 0 to state 0, then a store of 7 to cell 0, with a count of two bytes.
+unfoldable pub bars : ℕ → List ℕ
+bars ℕ.zero = []
+bars (ℕ.suc count) = 0 ∷ 9 ∷ 0 ∷ 0 ∷ bars count
+
+unfoldable pub barsThenStore : (high low count : ℕ) → List ℕ
+unfolding bars
+barsThenStore high low count =
+    1 ∷ 1 ∷ 1 ∷ 1 ∷ 1 ∷ 255 ∷ high ∷ low ∷ (bars count ++ (6 ∷ 2 ∷ 0 ∷ 0 ∷ 0 ∷ 0 ∷ 0 ∷ 0 ∷ 0 ∷ 7 ∷ []))
+
+-- A record of one store with a value and a high byte behind it; and of one assume with a high byte.
+unfoldable pub longStore : (low placeRank value high : ℕ) → List ℕ
+longStore low placeRank value high = 0 ∷ 1 ∷ 187 ∷ 2 ∷ 1 ∷ low ∷ placeRank ∷ 0 ∷ 0 ∷ 0 ∷ value ∷ high ∷ []
+
+unfoldable pub longAssume : (rank low high : ℕ) → List ℕ
+longAssume rank low high = 0 ∷ 1 ∷ 131 ∷ 4 ∷ rank ∷ low ∷ high ∷ []

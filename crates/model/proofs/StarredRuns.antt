@@ -1,5 +1,6 @@
--- The starred runs of document 01, and a run for each refusal and each of its "Mistakes that look sound", as one table in three sections. Expected
--- answers were worked out by hand from the paper. A theorem for each section, and one for the table, says that the definitions give each of them.
+-- The starred runs of document 01, a run for each refusal and each of its "Mistakes that look sound", and the forms and refusals that document 02's
+-- #107 brought, as one table in four sections. Expected answers were worked out by hand from the papers. A theorem for each section, and one for the
+-- table, says that the definitions give each of them.
 use Prim.Native.Nat.{ℕ, _+_, _-_}
 use mathlib.Core.Path.{_≡_, refl, sym, _∙_, ap₂}
 use mathlib.Core.List.{List, [], _∷_, _++_, map, map-append}
@@ -13,7 +14,7 @@ use Rattle.model.specs.Formats.{itemMaps}
 use Rattle.model.specs.Checks.{Outcome, checkIn, check, checkBytesIn, checkBytes}
 use Rattle.model.specs.Slips.{Lent, writeSlipIn, writeSlip, readSlip}
 use Rattle.model.specs.Listings.{Listing, listingIn, listing, join}
-use Rattle.model.proofs.Samples.{neighbour, noItems, lateDelivery, deliveryFirst, alone, selfCopy, writeItem, popItem, copyThenStore, storeItem, assumeOf, storeTo, storeOf, valueItem, sums, twoTransfers, overtaking}
+use Rattle.model.proofs.Samples.{neighbour, noItems, lateDelivery, deliveryFirst, alone, selfCopy, writeItem, popItem, copyThenStore, storeItem, assumeOf, storeTo, storeOf, valueItem, sums, twoTransfers, overtaking, barsThenStore, longStore, longAssume}
 
 -- What is asked: the whole check with what both lists hold, the same on bytes, a listing or a slip with what the memory holds, a slip read with N and
 -- what the counts hold.
@@ -278,6 +279,37 @@ verdictRows =
     -- "queue order drawn as an arrow": the ring would leave out the store
     ringRow twoTransfers overtaking 3 (0 ∷ 1 ∷ 2 ∷ []) (0 ∷ 0 ∷ 1 ∷ 0 ∷ []) ∷ []
 
+-- Document 02, #107: the forms of a count and of a transition's number, and each refusal at its place.
+pub transitionRows : List Row
+unfolding orderRow refusedRow assumeOf storeTo barsThenStore longStore longAssume
+transitionRows =
+    -- transition 256 of 257; a number of T or more; a value that the replay does not find; a transition of another kind
+    orderRow (barsThenStore 1 1 256) (longStore 0 1 7 1) (0 ∷ []) (7 ∷ []) ∷
+    refusedRow (barsThenStore 1 1 256) (longStore 1 1 7 1) 5 11 ∷
+    refusedRow (barsThenStore 1 1 256) (longStore 0 1 8 1) 11 0 ∷
+    refusedRow (barsThenStore 1 1 256) (longAssume 1 0 1) 7 0 ∷
+    -- "A count byte 129..254 or a two-byte count not 129..400 gets 2"; a missing byte is 1 at the length
+    refusedRow (1 ∷ 1 ∷ 1 ∷ 1 ∷ 1 ∷ 129 ∷ []) [] 2 5 ∷
+    refusedRow (1 ∷ 1 ∷ 1 ∷ 1 ∷ 1 ∷ 254 ∷ []) [] 2 5 ∷
+    refusedRow (1 ∷ 1 ∷ 1 ∷ 1 ∷ 1 ∷ 255 ∷ []) [] 1 6 ∷
+    refusedRow (1 ∷ 1 ∷ 1 ∷ 1 ∷ 1 ∷ 255 ∷ 0 ∷ []) [] 1 7 ∷
+    refusedRow (1 ∷ 1 ∷ 1 ∷ 1 ∷ 1 ∷ 255 ∷ 0 ∷ 128 ∷ []) [] 2 6 ∷
+    refusedRow (1 ∷ 1 ∷ 1 ∷ 1 ∷ 1 ∷ 255 ∷ 0 ∷ 129 ∷ []) [] 1 8 ∷
+    refusedRow (1 ∷ 1 ∷ 1 ∷ 1 ∷ 1 ∷ 255 ∷ 1 ∷ 144 ∷ []) [] 1 8 ∷
+    refusedRow (1 ∷ 1 ∷ 1 ∷ 1 ∷ 1 ∷ 255 ∷ 1 ∷ 145 ∷ []) [] 2 6 ∷
+    -- "a high byte of 0, or one that makes the number T or more, gets 5 at that byte"; "With bit 7 the low byte is not judged alone"
+    refusedRow (assumeOf 1) (longAssume 1 0 0) 5 6 ∷
+    refusedRow (assumeOf 1) (longAssume 1 0 1) 5 6 ∷
+    refusedRow (assumeOf 1) (longAssume 1 200 0) 5 6 ∷
+    refusedRow (assumeOf 1) (0 ∷ 1 ∷ 131 ∷ 4 ∷ 1 ∷ 0 ∷ []) 4 6 ∷
+    refusedRow (assumeOf 1) (0 ∷ 1 ∷ 3 ∷ 4 ∷ 1 ∷ 1 ∷ []) 5 5 ∷
+    -- a bad rank or place comes first; the high byte is behind the value
+    refusedRow (assumeOf 1) (longAssume 2 0 0) 5 4 ∷
+    refusedRow (storeTo 0) (longStore 0 2 1 0) 5 6 ∷
+    refusedRow (storeTo 0) (longStore 0 1 1 0) 5 11 ∷
+    -- "bit 7 stands only with bit 1"
+    refusedRow (storeTo 0) (0 ∷ 1 ∷ 157 ∷ 7 ∷ 1 ∷ 0 ∷ 1 ∷ 0 ∷ 0 ∷ 0 ∷ []) 6 2 ∷ []
+
 -- The definitions give the answer of each of these rows.
 abbrev pub Answered : List Row → Type 0
 Answered rows = map (λ row. reply (row .question)) rows ≡ map (λ row. row .expected) rows
@@ -295,11 +327,17 @@ pub verdict-rows : Answered verdictRows
 unfolding reply verdictRows
 verdict-rows = refl
 
+pub transition-rows : Answered transitionRows
+unfolding reply transitionRows
+transition-rows = refl
+
 -- And the one of the whole table.
 answered-both : (rows more : List Row) → Answered rows → Answered more → Answered (rows ++ more)
 answered-both rows more h g =
     map-append (λ (row : Row). reply (row .question)) rows more ∙ ap₂ _++_ h g ∙ sym (map-append (λ (row : Row). row .expected) rows more)
 
-pub every-row : Answered (readingRows ++ (replayRows ++ verdictRows))
+pub every-row : Answered (readingRows ++ (replayRows ++ (verdictRows ++ transitionRows)))
 every-row =
-    answered-both readingRows (replayRows ++ verdictRows) reading-rows (answered-both replayRows verdictRows replay-rows verdict-rows)
+    answered-both readingRows (replayRows ++ (verdictRows ++ transitionRows)) reading-rows
+    (answered-both replayRows (verdictRows ++ transitionRows) replay-rows
+    (answered-both verdictRows transitionRows verdict-rows transition-rows))

@@ -24,8 +24,10 @@ ghost use Rattle.program.specs.Headers.{headerRead, readControl};
 // What a count of one byte says at most.
 const SHORT_COUNT: u16 = 128;
 
-// The count byte behind which a two-byte count follows.
+// The count byte behind which a two-byte count follows, and what that count says at least.
 const LONG_COUNT: u16 = 255;
+
+const LONG_LEAST: u16 = SHORT_COUNT + 1;
 
 // A header and the place after it, or the refusal.
 pub enum HeaderRead {
@@ -73,7 +75,7 @@ fn transition_count(bytes: &[u8], at: usize) -> Field
         return within(
             read_word(bytes, next, PROGRAM_LENGTH),
             next,
-            SHORT_COUNT + 1,
+            LONG_LEAST,
             TRANSITIONS as u16,
             PROGRAM_RANGE,
         );

@@ -129,13 +129,8 @@ fn read_given(bytes: &[u8], at: usize, header: Header, map: u16, item: Item) -> 
     let Field::Read(value, next) = read else {
         return ItemRead::Refused(read.refusal());
     };
-    read_high(
-        bytes,
-        next,
-        header,
-        map,
-        with_given(item, given(present, value)),
-    )
+    let valued = with_given(item, given(present, value));
+    read_high(bytes, next, header, map, valued)
 }
 
 // The high byte of the transition's number, which ends the item.

@@ -29,7 +29,6 @@ transition-count-spec =
     missing
     (λ c κs. search needs)
     (λ c. search needs)
-    (λ c. search needs)
     (λ c κs. search needs)
     long
     (λ c κs. search needs)
