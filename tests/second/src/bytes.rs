@@ -68,7 +68,12 @@ impl<'a> ByteReader<'a> {
 }
 
 /// Gives the field back if it lies in the range, and else refuses it at its place.
-fn within(field: usize, range: RangeInclusive<usize>, number: u8, place: usize) -> Outcome<usize> {
+pub fn within(
+    field: usize,
+    range: RangeInclusive<usize>,
+    number: u8,
+    place: usize,
+) -> Outcome<usize> {
     if range.contains(&field) {
         Ok(field)
     } else {

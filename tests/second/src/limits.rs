@@ -1,4 +1,4 @@
-//! The limits of document 01, and what a refusal is.
+//! The limits of document 01 and of document 02's #107, and what a refusal is.
 
 /// The largest N; ranks run from 1 to N.
 pub const MAX_RANKS: usize = 8;
@@ -11,7 +11,11 @@ pub const MAX_QUEUES: usize = 4;
 /// The largest number of control states.
 pub const MAX_STATES: usize = 64;
 /// The largest number of transitions.
-pub const MAX_TRANSITIONS: usize = 128;
+pub const MAX_TRANSITIONS: usize = 400;
+/// The largest number of transitions that the header's count byte says by itself.
+pub const MAX_SHORT_COUNT: usize = 128;
+/// The count byte that says that a two-byte count follows.
+pub const LONG_COUNT: u8 = 255;
 /// The largest number of tokens in one expression.
 pub const MAX_TOKENS: usize = 15;
 /// The largest number of items in a record, and the largest count in a slip.

@@ -1,10 +1,10 @@
 //! The program bytes: header and transitions.
 
-use crate::bytes::{below, ByteReader};
+use crate::bytes::{below, within, ByteReader};
 use crate::expression::Expression;
 use crate::limits::{
-    number, refuse, Outcome, MAX_CELLS, MAX_QUEUES, MAX_RANKS, MAX_REGISTERS, MAX_STATES,
-    MAX_TRANSITIONS,
+    number, refuse, Outcome, LONG_COUNT, MAX_CELLS, MAX_QUEUES, MAX_RANKS, MAX_REGISTERS,
+    MAX_SHORT_COUNT, MAX_STATES, MAX_TRANSITIONS,
 };
 
 /// The kinds of commands and items.
@@ -138,7 +138,7 @@ impl Program {
         let registers = reader.byte_within(1..=MAX_REGISTERS, number::PROGRAM_RANGE)?;
         let queues = reader.byte_within(1..=MAX_QUEUES, number::PROGRAM_RANGE)?;
         let states = reader.byte_within(1..=MAX_STATES, number::PROGRAM_RANGE)?;
-        let count = reader.byte_within(0..=MAX_TRANSITIONS, number::PROGRAM_RANGE)?;
+        let count = read_count(&mut reader)?;
         let mut transitions = Vec::new();
         for _ in 0..count {
             transitions.push(read_transition(&mut reader, states, registers)?);
@@ -154,22 +154,43 @@ impl Program {
         })
     }
 
-    /// The program's bytes.
-    pub fn to_bytes(&self) -> Vec<u8> {
-        let header = [
+    /// The bytes before the transitions.
+    pub fn header(&self) -> Vec<u8> {
+        let numbers = [
             self.ranks,
             self.cells,
             self.registers,
             self.queues,
             self.states,
-            self.transitions.len(),
         ];
-        let mut out: Vec<u8> = header.iter().map(|&number| number as u8).collect();
+        let mut out: Vec<u8> = numbers.iter().map(|&number| number as u8).collect();
+        out.extend(count_bytes(self.transitions.len()));
+        out
+    }
+
+    /// The program's bytes.
+    pub fn to_bytes(&self) -> Vec<u8> {
+        let mut out = self.header();
         for transition in &self.transitions {
             transition.write(&mut out);
         }
         out
     }
+}
+
+/// The bytes of the number of transitions: each number has one form.
+pub fn count_bytes(count: usize) -> Vec<u8> {
+    if count <= MAX_SHORT_COUNT {
+        vec![count as u8]
+    } else {
+        long_count_bytes(count as u16)
+    }
+}
+
+/// The count byte that says that a two-byte count follows, and this as that count.
+pub fn long_count_bytes(count: u16) -> Vec<u8> {
+    let [high, low] = count.to_be_bytes();
+    vec![LONG_COUNT, high, low]
 }
 
 impl Transition {
@@ -184,8 +205,21 @@ impl Transition {
     }
 }
 
+/// Reads the number of transitions: the count byte says it, or says that a two-byte count follows,
+/// which is a field of its own and above what the byte can say.
+fn read_count(reader: &mut ByteReader) -> Outcome<usize> {
+    let place = reader.place();
+    let byte = reader.byte()?;
+    if byte == LONG_COUNT {
+        let long_counts = MAX_SHORT_COUNT + 1..=MAX_TRANSITIONS;
+        return reader.word_within(long_counts, number::PROGRAM_RANGE);
+    }
+    let short_counts = 0..=MAX_SHORT_COUNT;
+    within(byte.into(), short_counts, number::PROGRAM_RANGE, place)
+}
+
 /// Reads one transition: map and kind, both before either is judged, then its fields.
-fn read_transition(
+pub fn read_transition(
     reader: &mut ByteReader,
     states: usize,
     registers: usize,

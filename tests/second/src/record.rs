@@ -1,6 +1,6 @@
 //! The record bytes: the item count and the items.
 
-use crate::bytes::{below, ByteReader};
+use crate::bytes::{below, within, ByteReader};
 use crate::limits::{number, refuse, Outcome, MAX_ITEMS};
 use crate::program::{Kind, Program};
 
@@ -52,12 +52,16 @@ pub struct Item {
     pub value: Option<u16>,
 }
 
+/// Map bit 1: the transition, or its low byte where bit 7 stands too.
+const TRANSITION_BIT: u8 = 1 << 1;
 /// Map bit 2: the queue.
 const QUEUE_BIT: u8 = 1 << 2;
 /// Map bit 3: the place's rank; bit 4, its cell, stands with it in every right map.
 const PLACE_BIT: u8 = 1 << 3;
 /// Map bit 5: the value.
 const VALUE_BIT: u8 = 1 << 5;
+/// Map bit 7: the transition's high byte, after all other fields; it stands only with bit 1.
+pub const HIGH_BIT: u8 = 1 << 7;
 
 impl Act {
     /// The kind of the item.
@@ -83,6 +87,12 @@ impl Act {
             _ => None,
         }
     }
+
+    /// The high byte of a transition's number, if it is not 0; only then is it written.
+    fn high_byte(&self) -> Option<u8> {
+        let high = self.transition()? / 256;
+        (high != 0).then_some(high as u8)
+    }
 }
 
 impl Item {
@@ -90,9 +100,15 @@ impl Item {
     pub fn write(&self, out: &mut Vec<u8>) {
         let [plain, valued] = maps(self.act.kind());
         let map = if self.value.is_some() { valued } else { plain };
-        out.extend([map, self.act.kind().byte(), self.act.rank() as u8]);
+        let high = self.act.high_byte();
+        let high_bit = if high.is_some() { HIGH_BIT } else { 0 };
+        out.extend([
+            map | high_bit,
+            self.act.kind().byte(),
+            self.act.rank() as u8,
+        ]);
         match self.act {
-            Act::Command { transition, .. } => out.push(transition as u8),
+            Act::Command { transition, .. } => out.push(low_byte(transition)),
             Act::PopA { queue, .. } | Act::PopB { queue, .. } => out.push(queue as u8),
         }
         if let Some(place) = self.place {
@@ -100,11 +116,25 @@ impl Item {
             out.extend((place.cell as u16).to_be_bytes());
         }
         out.extend(self.value.iter().flat_map(|value| value.to_be_bytes()));
+        out.extend(high);
     }
 }
 
-/// The two maps of a kind: without a value and with one; the same where no value can be given. The
-/// table in `forms` says the same in a text of its own and is not made from this one.
+/// The low byte of a transition's number.
+fn low_byte(transition: usize) -> u8 {
+    (transition % 256) as u8
+}
+
+/// Whether the map is among the kind's: one of the two below, and bit 7 or not where bit 1 stands.
+/// The table in `forms` says the same in a text of its own and is not made from this one.
+fn is_map_of(kind: Kind, map: u8) -> bool {
+    let others = map & !HIGH_BIT;
+    let may_be_high = others & TRANSITION_BIT != 0;
+    maps(kind).contains(&others) && (map == others || may_be_high)
+}
+
+/// The two maps of a kind with bit 7 left out: without a value and with one; the same where no
+/// value can be given.
 pub fn maps(kind: Kind) -> [u8; 2] {
     match kind {
         Kind::Load | Kind::Store => [27, 59],
@@ -142,11 +172,11 @@ fn read_item(reader: &mut ByteReader, program: &Program) -> Outcome<Item> {
     let Some(kind) = Kind::from_byte(reader.byte()?) else {
         return refuse(number::RECORD_FORM, kind_place);
     };
-    if !maps(kind).contains(&map) {
+    if !is_map_of(kind, map) {
         return refuse(number::RECORD_FORM, map_place);
     }
     let rank = reader.byte_within(1..=program.ranks, number::RECORD_RANGE)?;
-    let act = read_act(reader, program, kind, map, rank)?;
+    let mut act = read_act(reader, program, kind, map, rank)?;
     let mut place = None;
     if map & PLACE_BIT != 0 {
         let owner = reader.byte_within(1..=program.ranks, number::RECORD_RANGE)?;
@@ -157,10 +187,23 @@ fn read_item(reader: &mut ByteReader, program: &Program) -> Outcome<Item> {
     if map & VALUE_BIT != 0 {
         value = Some(reader.word()?);
     }
+    if let (true, Act::Command { transition, .. }) = (map & HIGH_BIT != 0, &mut act) {
+        *transition = read_high_byte(reader, program, *transition)?;
+    }
     Ok(Item { act, place, value })
 }
 
-/// Reads the transition of a command item or the queue of a pop.
+/// Reads the high byte of a transition's number, which is not 0 and makes it a transition's, and
+/// gives the number.
+fn read_high_byte(reader: &mut ByteReader, program: &Program, low: usize) -> Outcome<usize> {
+    let place = reader.place();
+    let high = reader.byte_within(1..=255, number::RECORD_RANGE)?;
+    let transitions = below(program.transitions.len());
+    within(256 * high + low, transitions, number::RECORD_RANGE, place)
+}
+
+/// Reads the transition of a command item or the queue of a pop. With bit 7 it is the transition's
+/// low byte, which is not judged alone.
 fn read_act(
     reader: &mut ByteReader,
     program: &Program,
@@ -169,7 +212,11 @@ fn read_act(
     rank: usize,
 ) -> Outcome<Act> {
     if map & QUEUE_BIT == 0 {
-        let transitions = below(program.transitions.len());
+        let transitions = if map & HIGH_BIT == 0 {
+            below(program.transitions.len())
+        } else {
+            0..=255
+        };
         let transition = reader.byte_within(transitions, number::RECORD_RANGE)?;
         return Ok(Act::Command {
             kind,

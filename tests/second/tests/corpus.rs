@@ -6,6 +6,7 @@ use second::corpus_reader::{corpus_files, parse, read_file};
 use second::extras::{compare_extras, compare_slip_reader, Extras, Tally};
 use second::families;
 use second::harness::{between_guards, compare_case};
+use second::overtaken::OVERTAKEN;
 use std::collections::BTreeSet;
 use std::fs;
 use std::path::PathBuf;
@@ -53,6 +54,41 @@ fn the_made_files_are_current() {
             file.name
         );
     }
+}
+
+#[test]
+fn only_overtaken_cases_have_another_answer_than_their_files_say() {
+    let files = corpus_files(&directory()).expect("the corpus is there");
+    let mut differing = BTreeSet::new();
+    for file in files {
+        let text = fs::read_to_string(file).expect("the file can be read");
+        for case in parse(&text).expect("the file is well formed") {
+            if let Case::Check(case) = case {
+                let compared = compare_case(&between_guards(&check_bytes), &case);
+                differing.extend(compared.is_err().then_some(case.name));
+            }
+        }
+    }
+    let overtaken = OVERTAKEN.map(|(name, _)| name.to_string());
+    assert_eq!(differing, BTreeSet::from(overtaken));
+}
+
+#[test]
+fn the_longest_program_and_record_are_as_long_as_the_form_allows() {
+    let lengths = |name: &str| {
+        let named = cases().into_iter().find(|case| case.name() == name);
+        match named {
+            Some(Case::Check(case)) => (case.program.len(), case.record.len()),
+            other => panic!("{name}: {other:?}"),
+        }
+    };
+    // A header of 8 bytes, and 400 transitions of 4 bytes and four expressions of 15 tokens, seven
+    // of one byte and eight of three.
+    let longest = 8 + 400 * (4 + 4 * (7 + 8 * 3));
+    assert_eq!(lengths("transitions-400-longest-program").0, longest);
+    // The item count, and 1,024 items of map, kind, rank, transition, place, value and high byte.
+    let longest = 2 + 1024 * (1 + 1 + 1 + 1 + 3 + 2 + 1);
+    assert_eq!(lengths("transitions-400-longest-record").1, longest);
 }
 
 #[test]

@@ -18,7 +18,7 @@ const FUNCTIONS: [&str; 3] = ["check", "slip writer", "listing"];
 type Mistake<'a> = &'a dyn Fn(usize, Pair) -> Pair;
 
 /// A pair.
-fn pair(map: u8, kind: u8) -> Pair {
+const fn pair(map: u8, kind: u8) -> Pair {
     Pair { map, kind }
 }
 
@@ -40,7 +40,7 @@ fn items_of(record: &[u8]) -> Vec<usize> {
 
 /// The bytes of the fields that a map names.
 fn fields(map: u8) -> usize {
-    let bytes = [1, 1, 1, 1, 2, 2].into_iter().enumerate();
+    let bytes = [1, 1, 1, 1, 2, 2, 0, 1].into_iter().enumerate();
     let named = bytes.filter(|(bit, _)| map & (1 << bit) != 0);
     named.map(|(_, bytes)| bytes).sum()
 }
@@ -60,13 +60,13 @@ fn mistaken(mistake: Mistake, record: &[u8]) -> Vec<u8> {
     mistaken
 }
 
-/// Holds a subject of these functions to document 01's table.
+/// Holds a subject of these functions to the papers' table.
 fn held(check: Subject, write_slip: Writer, list: Writer) -> Result<Shown, String> {
     let readers = Readers {
         check: &between_guards(check),
         extras: &Extras::between_guards(write_slip, &slip_read, list),
     };
-    hold(&Table::of_document_01(), &readers)
+    hold(&Table::of_the_papers(), &readers)
 }
 
 /// Holds a subject to the table whose one function makes the mistake, and no other does.
@@ -172,17 +172,140 @@ fn the_values_bit_not_looked_at() {
 }
 
 #[test]
-fn bits_6_and_7_not_looked_at() {
-    for bit in [64, 128] {
-        let mistake = |_, old: Pair| pair(old.map & !bit, old.kind);
-        assert_caught(&mistake, pair(27 + bit, 1), "wrong-map", "good");
+fn bit_6_not_looked_at() {
+    let mistake = |_, old: Pair| pair(old.map & !64, old.kind);
+    assert_caught(&mistake, pair(27 + 64, 1), "wrong-map", "good");
+}
+
+/// The good pairs that bring a transition's high byte.
+const HIGH: [Pair; 9] = [
+    pair(155, 1),
+    pair(187, 1),
+    pair(155, 2),
+    pair(187, 2),
+    pair(131, 3),
+    pair(131, 4),
+    pair(131, 5),
+    pair(131, 6),
+    pair(131, 9),
+];
+
+#[test]
+fn bit_7_refused() {
+    for high in HIGH {
+        let mistake = taken_for(high, pair(255, high.kind));
+        assert_caught(&mistake, high, "good", "wrong-map");
     }
+    let mistake = |_, old: Pair| match old.map & 128 {
+        0 => old,
+        _ => pair(255, old.kind),
+    };
+    assert_caught(&mistake, pair(155, 1), "good", "wrong-map");
+}
+
+#[test]
+fn bit_7_taken_with_a_pop() {
+    for (kind, map) in [(7, 29), (7, 61), (8, 29), (8, 61)] {
+        let high = pair(map + 128, kind);
+        assert_caught(&taken_for(high, pair(map, kind)), high, "wrong-map", "good");
+    }
+}
+
+#[test]
+fn bit_7_taken_without_bit_1() {
+    for high in HIGH {
+        let without = pair(high.map - 2, high.kind);
+        assert_caught(&taken_for(without, high), without, "wrong-map", "good");
+    }
+}
+
+#[test]
+fn bit_7_taken_with_a_bit_that_is_not_the_kinds() {
+    for (kind, map, more) in [(1, 155, 4), (2, 187, 64), (3, 131, 32), (6, 131, 24)] {
+        let other = pair(map + more, kind);
+        assert_caught(
+            &taken_for(other, pair(map, kind)),
+            other,
+            "wrong-map",
+            "good",
+        );
+    }
+}
+
+/// Fails unless a subject that reads all items in another way is caught in each function at this
+/// pair, although its verdicts on the pairs alone are right.
+fn assert_reading_caught(reading: fn(&[u8]) -> Vec<u8>, at: Pair) {
+    let check: Subject =
+        &|program, record, order, cells| check_bytes(program, &reading(record), order, cells);
+    let write_slip: Writer = &|program, record, slip| slip_written(program, &reading(record), slip);
+    let list: Writer = &|program, record, text| listed(program, &reading(record), text);
+    let begin = format!("{at}: good in the table, no verdict by the ");
+    assert_fault(held(check, &slip_written, &listed), &begin);
+    assert_fault(held(&check_bytes, write_slip, &listed), &begin);
+    assert_fault(held(&check_bytes, &slip_written, list), &begin);
+}
+
+/// The record with the bytes of each whole item that brings a high byte changed.
+fn high_items_changed(record: &[u8], change: fn(&mut Vec<u8>)) -> Vec<u8> {
+    let mut changed = record[..2].to_vec();
+    for at in items_of(record) {
+        let end = record.len().min(at + 2 + fields(record[at]));
+        let mut item = record[at..end].to_vec();
+        let high = HIGH.contains(&pair(item[0], item[1]));
+        if high && !is_cut(record, at) {
+            change(&mut item);
+        }
+        changed.extend(item);
+    }
+    changed
+}
+
+#[test]
+fn the_high_byte_passed_over() {
+    let reading = |record: &[u8]| {
+        high_items_changed(record, |item| {
+            item[0] -= 128;
+            item.pop();
+        })
+    };
+    assert_reading_caught(reading, pair(155, 1));
+}
+
+#[test]
+fn the_high_byte_read_before_the_value() {
+    let reading = |record: &[u8]| {
+        high_items_changed(record, |item| {
+            if item[0] == 187 {
+                item[7..].rotate_left(1);
+            }
+        })
+    };
+    assert_reading_caught(reading, pair(187, 1));
+}
+
+#[test]
+fn the_high_byte_read_right_after_the_low_one() {
+    let reading = |record: &[u8]| high_items_changed(record, |item| item[4..].rotate_left(1));
+    assert_reading_caught(reading, pair(155, 1));
+}
+
+#[test]
+fn bit_7_refused_beside_a_program_without_such_transitions() {
+    let check: Subject = &|program, record, order, cells| {
+        let is_high = |&at: &usize| HIGH.contains(&pair(record[at], record[at + 1]));
+        match items_of(record).into_iter().find(is_high) {
+            Some(at) if program[5] != 255 => refused(6, at),
+            _ => check_bytes(program, record, order, cells),
+        }
+    };
+    let begin = "kind 1 map 155: good in the table, wrong-map by the check\n";
+    assert_fault(held(check, &slip_written, &listed), begin);
 }
 
 #[test]
 fn the_map_judged_before_the_kind() {
     let mistake = |_, old: Pair| match (old.form(), old.map) {
-        (Form::UnknownKind, 3 | 27 | 29 | 59 | 61) => old,
+        (Form::UnknownKind, 3 | 27 | 29 | 59 | 61 | 131 | 155 | 187) => old,
         (Form::UnknownKind, map) => pair(map, 1),
         _ => old,
     };

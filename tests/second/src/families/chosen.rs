@@ -9,6 +9,7 @@ use crate::judge::judge;
 use crate::limits::Refusal;
 use crate::machine::Start;
 use crate::order::Verdict;
+use crate::overtaken::{answered_before, dated};
 use crate::program::Kind;
 use crate::record::record_bytes;
 use std::collections::{BTreeMap, BTreeSet};
@@ -109,7 +110,8 @@ fn judged_case(
     )))
 }
 
-/// Refusals: for each number 1 to 15 some generated inputs at places as different as can be.
+/// Refusals: for each number 1 to 15 some generated inputs at places as different as can be, all
+/// of them made and answered as before #107.
 pub fn refused_file(seed: u64) -> Result<Named, String> {
     let mut found: BTreeMap<u8, BTreeMap<usize, CheckCase>> = BTreeMap::new();
     for index in 0..PATIENCE {
@@ -121,7 +123,8 @@ pub fn refused_file(seed: u64) -> Result<Named, String> {
             continue;
         }
         let entries = (input.order_bytes / 2, input.cell_bytes / 2);
-        let filled = crate::check::answer(&input.program, &input.record, entries.0, entries.1);
+        let program = dated(&input.program);
+        let filled = crate::check::answer(&program, &input.record, entries.0, entries.1);
         let Answer::Refused(Refusal { number, place }) = filled.answer else {
             continue;
         };
@@ -129,7 +132,7 @@ pub fn refused_file(seed: u64) -> Result<Named, String> {
         if places.len() < PER_NUMBER && !places.contains_key(&place) {
             let name = format!("refused-{number}-{index}");
             let (program, record) = (input.program, input.record);
-            let case = CheckCase::answered(name, program, record, entries.0, entries.1);
+            let case = answered_before(name, program, record, entries.0, entries.1);
             places.insert(place, case);
         }
     }

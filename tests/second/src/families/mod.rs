@@ -4,16 +4,19 @@ pub mod base;
 pub mod chosen;
 pub mod extremes;
 pub mod replay_table;
+pub mod row;
 pub mod slips;
 pub mod table;
+pub mod transitions;
 
 use crate::bounded::judge_bounded;
 use crate::check::accept;
-use crate::corpus::{Case, CheckCase, Expected};
+use crate::corpus::{Case, CheckCase};
 use crate::judge::judge_order;
 use crate::limits::{MAX_CELLS, MAX_ITEMS, MAX_RANKS};
 use crate::machine::Start;
 use crate::order::Verdict;
+use crate::overtaken::answered_before;
 
 /// A corpus file: its name and its text.
 #[derive(Debug, Clone, PartialEq, Eq)]
@@ -44,25 +47,16 @@ pub fn files(seed: u64) -> Result<Vec<Named>, String> {
         chosen::judged_file(seed)?,
         chosen::refused_file(seed)?,
         slips::file(seed)?,
+        transitions::file()?,
     ])
 }
 
-/// The file of the table's rows; a row that the second program answers otherwise is a fault.
+/// The file of the table's rows; a row that was answered otherwise before #107 is a fault.
 fn table_file() -> Result<Named, String> {
-    let mut cases = Vec::new();
-    for row in table::rows() {
-        let (order, cells) = (row.order_entries, row.cell_entries);
-        let case = CheckCase::answered(row.name, row.program, row.record, order, cells);
-        if case.answer != Expected::Refused(row.refusal) {
-            return Err(format!(
-                "{}: {:?}, by hand {:?}",
-                case.name, case.answer, row.refusal
-            ));
-        }
-        cases.push(Case::Check(case));
-    }
+    let rows = table::rows().into_iter();
+    let cases: Result<Vec<Case>, String> = rows.map(|row| row.case(answered_before)).collect();
     let head = "# Every row of document 01's table; numbers and places worked out by hand.\n";
-    Ok(Named::new("table.txt", head, &cases))
+    Ok(Named::new("table.txt", head, &cases?))
 }
 
 /// Places a bounded search may visit for an extreme.

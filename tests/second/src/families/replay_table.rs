@@ -1,8 +1,8 @@
 //! The table's rows of the replay, 7 to 13, worked out by hand on the base program.
 
 use super::base::{one, program_with, record_with, several, BASE_PROGRAM, BASE_RECORD};
-use super::table::Row;
-use crate::limits::Refusal;
+use super::row::Row;
+use super::table::row;
 
 /// Items of the base program that the rows are put together from.
 mod items {
@@ -35,20 +35,6 @@ mod items {
 }
 
 use items::*;
-
-/// A row with this program and record and long enough lists.
-fn row(what: &str, program: Vec<u8>, record: Vec<u8>, number: u8, place: usize) -> Row {
-    let name = format!("table-{number}-{what}-at-{place}");
-    let refusal = Refusal { number, place };
-    Row {
-        name,
-        program,
-        record,
-        order_entries: 40,
-        cell_entries: 40,
-        refusal,
-    }
-}
 
 /// A row of the base program with this record.
 fn record_row(what: &str, record: Vec<u8>, number: u8, place: usize) -> Row {

@@ -1,37 +1,11 @@
 //! Cases for every row of document 01's table, their numbers and places worked out by hand.
 
 use super::base::{join, one, program_with, record_of, record_with, BASE_PROGRAM, BASE_RECORD};
-use crate::limits::Refusal;
+use super::row::Row;
 
-/// A case of the table: its input and the refusal it must get.
-#[derive(Debug, Clone)]
-pub struct Row {
-    /// The case's name.
-    pub name: String,
-    /// The program bytes.
-    pub program: Vec<u8>,
-    /// The record bytes.
-    pub record: Vec<u8>,
-    /// The length of the order list.
-    pub order_entries: usize,
-    /// The length of the cell list.
-    pub cell_entries: usize,
-    /// The refusal by hand.
-    pub refusal: Refusal,
-}
-
-/// A row from the base program and record with long enough lists.
-fn row(what: &str, program: Vec<u8>, record: Vec<u8>, number: u8, place: usize) -> Row {
-    let name = format!("table-{number}-{what}-at-{place}");
-    let refusal = Refusal { number, place };
-    Row {
-        name,
-        program,
-        record,
-        order_entries: 40,
-        cell_entries: 40,
-        refusal,
-    }
+/// A row of the table with long enough lists.
+pub(super) fn row(what: &str, program: Vec<u8>, record: Vec<u8>, number: u8, place: usize) -> Row {
+    Row::refused("table", what, [program, record], number, place)
 }
 
 /// A row with another program.
@@ -348,11 +322,6 @@ fn record_forms() -> Vec<Row> {
 /// Faults side by side: program before record, record before replay, 14 before 15.
 fn precedence() -> Vec<Row> {
     let bad_end = record_with(&[(10, 1), (53, 255)]);
-    let with_lists = |mut row: Row, order_entries, cell_entries| {
-        row.name = format!("{}-lists-{order_entries}-{cell_entries}", row.name);
-        (row.order_entries, row.cell_entries) = (order_entries, cell_entries);
-        row
-    };
     let sound = |number, place| record_row("sound", BASE_RECORD.to_vec(), number, place);
     let first_items = record_of(4, &BASE_RECORD[2..26]);
     vec![
@@ -365,10 +334,10 @@ fn precedence() -> Vec<Row> {
         ),
         row("both-empty", Vec::new(), Vec::new(), 1, 0),
         record_row("record-before-replay", bad_end, 6, 53),
-        with_lists(record_row("left", first_items, 13, 4), 0, 0),
-        with_lists(sound(14, 4), 3, 4),
-        with_lists(sound(14, 4), 0, 0),
-        with_lists(sound(15, 4), 4, 3),
-        with_lists(sound(15, 4), 40, 0),
+        record_row("left", first_items, 13, 4).with_lists(0, 0),
+        sound(14, 4).with_lists(3, 4),
+        sound(14, 4).with_lists(0, 0),
+        sound(15, 4).with_lists(4, 3),
+        sound(15, 4).with_lists(40, 0),
     ]
 }

@@ -5,10 +5,9 @@ use super::{Form, Pair};
 use crate::corpus::{CheckCase, Expected};
 use crate::limits::{number, Refusal};
 
-/// The program: N 2, A 3, R 2, Q 2, S 1, T 7, a transition for each kind of command.
+/// A transition for each kind of command, numbered from 0.
 #[rustfmt::skip]
-const PROGRAM: [u8; 69] = [
-    2, 3, 2, 2, 1, 7,                                    // header
+const COMMANDS: [u8; 63] = [
     6, 2, 0, 0,  0, 0, 1,  0, 1, 2,                      // 0: store, cell 1 takes 258
     3, 1, 0, 0,  1,  0, 0, 1,                            // 1: load, register 1 takes cell 1
     3, 3, 0, 0,  0,  2,                                  // 2: assign, register 0 takes own rank
@@ -17,10 +16,36 @@ const PROGRAM: [u8; 69] = [
     30, 6, 0, 0,  0, 0, 1,  0, 0, 1,  0, 0, 0,  0, 0, 0, // 5: write, 1, rank 1, 0, queue 0
     0, 9, 0, 0,                                          // 6: bar
 ];
+/// Header of the short program, which has the commands alone: N 2, A 3, R 2, Q 2, S 1, T 7.
+const SHORT_HEADER: [u8; 6] = [2, 3, 2, 2, 1, 7];
+/// Header of the long program, the same but for T, which is 264.
+const LONG_HEADER: [u8; 8] = [2, 3, 2, 2, 1, 255, 1, 8];
+/// Transition 7 of the long program: an assume, since bars come after it.
+const ASSUME: [u8; 5] = [2, 4, 0, 0, 2];
+/// Transitions 8 to 256 of the long program: bars.
+const BAR: [u8; 4] = [0, 9, 0, 0];
+/// How many they are.
+const BARS: usize = 249;
+/// The number of the first command in the long program, where all come once more. The low byte of
+/// such a number alone is that of a transition of another kind.
+const AGAIN: u16 = 257;
+
+/// The bytes of the short program, or of the long one.
+fn program(long: bool) -> Vec<u8> {
+    if !long {
+        return [&SHORT_HEADER[..], &COMMANDS].concat();
+    }
+    let bars = BAR.repeat(BARS);
+    [&LONG_HEADER[..], &COMMANDS, &ASSUME, &bars, &COMMANDS].concat()
+}
 
 /// The map bit that each byte of an item's fields belongs to: rank, transition, queue, place rank,
-/// place cell and value, the last two of two bytes.
-const BITS: [u8; 8] = [0, 1, 2, 3, 4, 4, 5, 5];
+/// place cell and value, these two of two bytes, and the transition's high byte.
+const BITS: [u8; 9] = [0, 1, 2, 3, 4, 4, 5, 5, 7];
+/// The map bit of the transition's high byte.
+const HIGH_BIT: u8 = 7;
+/// The bytes of all fields but the high byte, with the transition's number in the short program.
+type Fields = [u8; BITS.len() - 1];
 
 /// An item of the run: its pair, and the bytes of all fields, of those that its map names and of
 /// those that another map would name.
@@ -28,21 +53,39 @@ struct Planned {
     /// Map and kind.
     pair: Pair,
     /// The bytes of the fields, as `BITS` has them.
-    fields: [u8; BITS.len()],
+    fields: Fields,
 }
 
 impl Planned {
     /// The item's bytes with a pair in place of its own: map, kind, then the fields it names.
     fn with(&self, Pair { map, kind }: Pair) -> Vec<u8> {
         let mut bytes = vec![map, kind];
-        let fields = self.fields.iter().zip(BITS);
-        bytes.extend(fields.filter_map(|(byte, bit)| (map & (1 << bit) != 0).then_some(byte)));
+        let fields = self.all_fields(map).into_iter().zip(BITS);
+        bytes.extend(fields.filter_map(|(byte, bit)| stands(map, bit).then_some(byte)));
         bytes
+    }
+
+    /// The bytes of all fields for an item with this map. Where it brings a high byte, the
+    /// transition is the same command among those that the long program has once more.
+    fn all_fields(&self, map: u8) -> [u8; BITS.len()] {
+        let [rank, transition, rest @ ..] = self.fields;
+        let first = if stands(map, HIGH_BIT) { AGAIN } else { 0 };
+        let [high, low] = (first + u16::from(transition)).to_be_bytes();
+        let [queue, place @ .., high_value, low_value] = rest;
+        let [owner, high_cell, low_cell] = place;
+        [
+            rank, low, queue, owner, high_cell, low_cell, high_value, low_value, high,
+        ]
     }
 }
 
+/// Whether a bit of the map stands.
+fn stands(map: u8, bit: u8) -> bool {
+    map & (1 << bit) != 0
+}
+
 /// An item by its map, its kind and its fields.
-const fn planned(map: u8, kind: u8, fields: [u8; BITS.len()]) -> Planned {
+const fn planned(map: u8, kind: u8, fields: Fields) -> Planned {
     let pair = Pair { map, kind };
     Planned { pair, fields }
 }
@@ -86,7 +129,7 @@ cell 1 2 258
 cell 2 1 258
 ";
 
-/// Where in a record the pair stands.
+/// Where in a record the pair stands, and beside which program.
 #[derive(Debug, Clone, Copy, PartialEq, Eq)]
 pub enum Stand {
     /// It is all that there is of the only item.
@@ -96,19 +139,36 @@ pub enum Stand {
     /// It is in place of the run's last pair of that kind, with the fields that the map names; for
     /// a kind that the run does not have, in place of the last pair.
     InRun,
+    /// The same with the long program, which has the transitions that a high byte names.
+    InLongRun,
 }
 
-/// The three stands, the simplest first.
-pub const STANDS: [Stand; 3] = [Stand::Alone, Stand::AfterRun, Stand::InRun];
+/// The four stands, the simplest first.
+pub const STANDS: [Stand; 4] = [
+    Stand::Alone,
+    Stand::AfterRun,
+    Stand::InRun,
+    Stand::InLongRun,
+];
+
+/// A record that holds a pair.
+struct Holding {
+    /// The record's bytes.
+    record: Vec<u8>,
+    /// The place of the pair's map byte.
+    map_place: usize,
+    /// The place of the last byte of the pair's item.
+    last_place: usize,
+}
 
 impl Stand {
-    /// The record with the pair, and the place of its map byte.
-    fn record(self, pair: Pair) -> (Vec<u8>, usize) {
+    /// The record with the pair.
+    fn record(self, pair: Pair) -> Holding {
         let cut = [pair.map, pair.kind];
         match self {
             Stand::Alone => around(&[], &cut, &[]),
             Stand::AfterRun => around(&RUN, &cut, &[]),
-            Stand::InRun => {
+            Stand::InRun | Stand::InLongRun => {
                 let of_kind = RUN.iter().rposition(|item| item.pair.kind == pair.kind);
                 let at = of_kind.unwrap_or(RUN.len() - 1);
                 around(&RUN[..at], &RUN[at].with(pair), &RUN[at + 1..])
@@ -117,8 +177,8 @@ impl Stand {
     }
 }
 
-/// A record of planned items and one between them given as bytes, and the place where that begins.
-fn around(before: &[Planned], item: &[u8], after: &[Planned]) -> (Vec<u8>, usize) {
+/// A record of planned items and one between them given as bytes.
+fn around(before: &[Planned], item: &[u8], after: &[Planned]) -> Holding {
     let count = before.len() + 1 + after.len();
     let mut record = (count as u16).to_be_bytes().to_vec();
     let write = |record: &mut Vec<u8>, items: &[Planned]| {
@@ -127,31 +187,40 @@ fn around(before: &[Planned], item: &[u8], after: &[Planned]) -> (Vec<u8>, usize
         }
     };
     write(&mut record, before);
-    let place = record.len();
+    let map_place = record.len();
     record.extend(item);
+    let last_place = record.len() - 1;
     write(&mut record, after);
-    (record, place)
+    Holding {
+        record,
+        map_place,
+        last_place,
+    }
 }
 
 /// The input with the pair at this stand, and what is right if this is the verdict: 6 at the kind
 /// or at the map; of a good pair that is cut off, 4 at the length, since every good map names a
-/// rank; and of a good pair in the run, the run's order.
+/// rank; of a good pair in the run, the run's order, but 5 at the high byte, if there is one,
+/// where the program has no transition of so high a number.
 pub fn case(stand: Stand, pair: Pair, form: Form) -> CheckCase {
-    let (record, map_place) = stand.record(pair);
-    let length = record.len();
-    match (form, stand) {
-        (Form::UnknownKind, _) => refused(record, number::RECORD_FORM, map_place + 1),
-        (Form::WrongMap, _) => refused(record, number::RECORD_FORM, map_place),
-        (Form::Good, Stand::InRun) => accepted(record),
-        (Form::Good, _) => refused(record, number::RECORD_LENGTH, length),
-    }
+    let held = stand.record(pair);
+    let (number, place) = match (form, stand) {
+        (Form::UnknownKind, _) => (number::RECORD_FORM, held.map_place + 1),
+        (Form::WrongMap, _) => (number::RECORD_FORM, held.map_place),
+        (Form::Good, Stand::Alone | Stand::AfterRun) => (number::RECORD_LENGTH, held.record.len()),
+        (Form::Good, Stand::InRun) if stands(pair.map, HIGH_BIT) => {
+            (number::RECORD_RANGE, held.last_place)
+        }
+        (Form::Good, _) => return accepted(stand, held.record),
+    };
+    refused(stand, held.record, Refusal { number, place })
 }
 
 /// The case of a record with the run's answers; both lists are longer than it needs.
-fn accepted(record: Vec<u8>) -> CheckCase {
+fn accepted(stand: Stand, record: Vec<u8>) -> CheckCase {
     CheckCase {
         name: String::new(),
-        program: PROGRAM.to_vec(),
+        program: program(stand == Stand::InLongRun),
         record,
         order_entries: ORDER.len() + 2,
         cell_entries: CELLS.len() + 2,
@@ -162,13 +231,14 @@ fn accepted(record: Vec<u8>) -> CheckCase {
     }
 }
 
-/// The case of a record that is refused with this number at this place.
-fn refused(record: Vec<u8>, number: u8, place: usize) -> CheckCase {
+/// The case of a record that gets this refusal.
+fn refused(stand: Stand, record: Vec<u8>, refusal: Refusal) -> CheckCase {
+    let Refusal { number, place } = refusal;
     CheckCase {
-        answer: Expected::Refused(Refusal { number, place }),
+        answer: Expected::Refused(refusal),
         cells: Vec::new(),
         slip: None,
         listing: format!("refused {number} {place}\n"),
-        ..accepted(record)
+        ..accepted(stand, record)
     }
 }

@@ -1,5 +1,6 @@
-//! The verdict on each map byte and kind byte of an item, written from document 01 alone. `record`
-//! has no part in it: this is a second text, and every reader is held to it, that one too.
+//! The verdict on each map byte and kind byte of an item, written from document 01 and document
+//! 02's #107 alone. `record` has no part in it: this is a second text, and every reader is held to
+//! it, that one too.
 
 pub mod hold;
 pub mod inputs;
@@ -7,7 +8,7 @@ pub mod table;
 
 use std::fmt;
 
-/// What document 01 says of the map byte and the kind byte of an item.
+/// What the papers say of the map byte and the kind byte of an item.
 #[derive(Debug, Clone, Copy, PartialEq, Eq, PartialOrd, Ord)]
 pub enum Form {
     /// The kind is known, and the map is among its maps.
@@ -49,17 +50,19 @@ pub struct Pair {
 impl Pair {
     /// The verdict on the pair. Document 01: "Maps: load and store 27, or 59 with a value; assign,
     /// assume, read, write and bar 3; popa (kind 7) and popb (kind 8) 29, or 61 with a value."
+    /// Document 02, #107: "In items a new map bit 7 brings the transition's high byte after all
+    /// other fields. That byte is never 0 and bit 7 stands only with bit 1."
     pub fn form(self) -> Form {
         let maps: &[u8] = match self.kind {
-            1 => &[27, 59], // load
-            2 => &[27, 59], // store
-            3 => &[3],      // assign
-            4 => &[3],      // assume
-            5 => &[3],      // read
-            6 => &[3],      // write
-            7 => &[29, 61], // popa
-            8 => &[29, 61], // popb
-            9 => &[3],      // bar
+            1 => &[27, 59, 155, 187], // load
+            2 => &[27, 59, 155, 187], // store
+            3 => &[3, 131],           // assign
+            4 => &[3, 131],           // assume
+            5 => &[3, 131],           // read
+            6 => &[3, 131],           // write
+            7 => &[29, 61],           // popa
+            8 => &[29, 61],           // popb
+            9 => &[3, 131],           // bar
             _ => return Form::UnknownKind,
         };
         if maps.contains(&self.map) {

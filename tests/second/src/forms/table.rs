@@ -10,8 +10,8 @@ use std::path::Path;
 pub struct Table(Vec<Form>);
 
 impl Table {
-    /// Document 01's verdicts.
-    pub fn of_document_01() -> Table {
+    /// The papers' verdicts.
+    pub fn of_the_papers() -> Table {
         Table(pairs().map(Pair::form).collect())
     }
 

@@ -72,11 +72,7 @@ fn transition_byte(rng: &mut Rng, program: &Program, bytes: &mut [u8]) {
     if program.transitions.is_empty() {
         return;
     }
-    let mut before = Program {
-        transitions: Vec::new(),
-        ..program.clone()
-    }
-    .to_bytes();
+    let mut before = program.header();
     let chosen = rng.below(program.transitions.len());
     for transition in &program.transitions[..chosen] {
         transition.write(&mut before);

@@ -17,9 +17,11 @@ use second::generator::{input, small_input, Input};
 use second::harness::{between_guards, compare, compare_case, Histogram};
 use second::judge::{judge, judge_order};
 use second::judged::{judge_observed, Verdicts};
+use second::limits::Refusal;
 use second::listing::listing_of_directory;
 use second::machine::Start;
 use second::order::Verdict;
+use second::overtaken::OVERTAKEN;
 use std::collections::BTreeSet;
 use std::fmt::Write;
 use std::fs;
@@ -64,8 +66,11 @@ pub fn corpus(tested: &Tested, directory: &str) -> Done {
         }
     }
     let Counts { histogram, tally } = counts;
+    let is_overtaken = |(name, _): &(&str, Refusal)| names.contains(*name);
+    let overtaken = OVERTAKEN.into_iter().filter(is_overtaken).count();
     Ok(format!(
-        "corpus: {} cases agree ({})\nslip cases for the second program only, N above 255: \
+        "corpus: {} cases agree ({})\ncases answered as #107 says and not as their files: \
+         {overtaken}\nslip cases for the second program only, N above 255: \
          {not_asked}\n{histogram}{tally}",
         names.len(),
         tested.name
@@ -204,9 +209,9 @@ pub fn forms(tested: &Tested, file: &str) -> Done {
     Ok(format!("forms: all pairs agree ({})\n{shown}", tested.name))
 }
 
-/// Writes document 01's table of verdicts.
+/// Writes the papers' table of verdicts.
 pub fn write_forms(file: &str) -> Done {
-    let text = Table::of_document_01().to_string();
+    let text = Table::of_the_papers().to_string();
     written(Path::new(file), &text)?;
     Ok(format!("{file}: {} bytes\n", text.len()))
 }

@@ -21,7 +21,7 @@ const USAGE: &str = "usage:
   harness forms FILE              hold the subject to a table of verdicts on map and kind
   harness --guards ...            one of these four; the first program, if it is linked, is lent
                                   its lists between guard bytes and not at the ends of pages
-  harness write-forms FILE        write document 01's table of verdicts on map and kind
+  harness write-forms FILE        write the papers' table of verdicts on map and kind
   harness write-corpus DIR SEED   make the corpus files (all but the hand-written ones)
   harness show FILE [NAME]        print answer and listing of the cases of a corpus file
   harness listing DIR             print the listing of DIR/run.prg and DIR/run.rec";
