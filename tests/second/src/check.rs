@@ -80,7 +80,13 @@ pub struct Filled {
 
 /// The answer with its entries, for lists of so many entries; nothing is filled on a refusal.
 pub fn answer(program: &[u8], record: &[u8], order_entries: usize, cell_entries: usize) -> Filled {
-    match fit(program, record, order_entries, cell_entries) {
+    filled(accept(program, record), order_entries, cell_entries)
+}
+
+/// The answer with its entries for what was accepted or refused.
+fn filled(accepted: Outcome<Accepted>, order_entries: usize, cell_entries: usize) -> Filled {
+    let fitted = accepted.and_then(|accepted| fit(&accepted, order_entries, cell_entries));
+    match fitted {
         Ok(filled) => filled,
         Err(refusal) => Filled {
             answer: Answer::Refused(refusal),
@@ -90,14 +96,8 @@ pub fn answer(program: &[u8], record: &[u8], order_entries: usize, cell_entries:
     }
 }
 
-/// As `answer`, but a refusal is an early return: 1 to 13, then 14, then 15.
-fn fit(
-    program: &[u8],
-    record: &[u8],
-    order_entries: usize,
-    cell_entries: usize,
-) -> Outcome<Filled> {
-    let accepted = accept(program, record)?;
+/// An accepted run's answer, but a list that is too short is an early return: 14, then 15.
+fn fit(accepted: &Accepted, order_entries: usize, cell_entries: usize) -> Outcome<Filled> {
     let group_count = accepted.grouping.groups.len();
     if order_entries < group_count {
         return refuse(number::ORDER_SHORT, group_count);
@@ -133,7 +133,12 @@ pub fn check(program: &[u8], record: &[u8], order: &mut [u16], cells: &mut [u16]
 
 /// The whole check on lent bytes, two an entry, big-endian; an odd last byte is never used.
 pub fn check_bytes(program: &[u8], record: &[u8], order: &mut [u8], cells: &mut [u8]) -> Answer {
-    let filled = answer(program, record, order.len() / 2, cells.len() / 2);
+    fill_bytes(accept(program, record), order, cells)
+}
+
+/// Fills lent bytes with what was accepted, if they are long enough, and answers.
+pub fn fill_bytes(accepted: Outcome<Accepted>, order: &mut [u8], cells: &mut [u8]) -> Answer {
+    let filled = filled(accepted, order.len() / 2, cells.len() / 2);
     fill_words(order, &filled.groups);
     fill_words(cells, &filled.cells);
     filled.answer

@@ -1,18 +1,13 @@
 //! The arrows and the ring against their definitions, written out pair by pair.
 
-use second::check::{accept, Accepted};
-use second::generator::rng::Rng;
+mod common;
+
+use common::accepted;
+use second::check::Accepted;
 use second::generator::{middle_run, small_run};
 use second::groups::{arrows, Pairs};
 use second::machine::Step;
 use second::order::Verdict;
-use second::program::Program;
-use second::record::{record_bytes, Item};
-
-/// The accepted run of these items.
-fn accepted((program, items): (Program, Vec<Item>)) -> Accepted {
-    accept(&program.to_bytes(), &record_bytes(&items)).expect("an execution is accepted")
-}
 
 /// Whether the second item is the next command item of the first one's rank.
 fn program_order(steps: &[Step], first: usize, second: usize) -> bool {
@@ -106,8 +101,8 @@ fn compare(accepted: &Accepted) -> bool {
 fn arrows_and_rings_are_as_defined() {
     let mut rings = 0;
     for index in 0..4_000 {
-        rings += usize::from(compare(&accepted(small_run(&mut Rng::new(31, index)))));
-        rings += usize::from(compare(&accepted(middle_run(&mut Rng::new(32, index)))));
+        rings += usize::from(compare(&accepted(small_run, 31, index)));
+        rings += usize::from(compare(&accepted(middle_run, 32, index)));
     }
     println!("arrows: 8000 runs as defined, {rings} of them rings");
     assert!(rings >= 2_000);

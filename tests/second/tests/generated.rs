@@ -1,12 +1,21 @@
 //! The generator: repeatable, and rich enough that every number comes often and at many places.
 
+mod common;
+
+use common::{fields, items_of, takes_high};
 use second::check::{check_bytes, Answer};
 use second::corpus::{CheckCase, SlipCase};
 use second::extras::{compare_all_ranks, compare_extras, compare_slip_reader, Extras, Tally};
-use second::generator::input;
+use second::generator::rng::Rng;
 use second::generator::slips::slip_input;
+use second::generator::widen::{widened, Run};
+use second::generator::{input, middle_run, small_run, Input};
 use second::harness::{between_guards, compare, Histogram};
+use second::limits::Refusal;
+use second::program::Program;
+use second::record::record_bytes;
 use second::slip::read_slip;
+use std::collections::BTreeMap;
 
 #[test]
 fn the_generator_is_repeatable() {
@@ -83,4 +92,121 @@ fn every_number_is_told_by_slip_writer_slip_reader_and_listing() {
         .values()
         .flat_map(|numbers| numbers.values())
         .all(often));
+}
+
+/// What an input and its answer show of #107's rules for the count, if anything.
+fn seen_of_the_count(program: &[u8], refusal: Refusal) -> Option<&'static str> {
+    let long = program.get(5) == Some(&255);
+    match (refusal.number, refusal.place) {
+        (2, 5) => Some("count byte outside its range"),
+        (2, 6) if long => Some("two-byte count outside its range"),
+        (1, 6) if long => Some("two-byte count missing"),
+        (1, 7) if long => Some("half of the two-byte count missing"),
+        (1, 8) if long => Some("transitions missing after a long count"),
+        (1, _) if long => Some("a long program's end"),
+        (3, _) if long => Some("a long program's bad transition"),
+        _ => None,
+    }
+}
+
+/// What a refused record shows of #107's rules for an item's fields, if anything.
+fn seen_of_the_item(program: &Program, record: &[u8], refusal: Refusal) -> Option<&'static str> {
+    let Refusal { number, place } = refusal;
+    let holds = |&at: &usize| (at..=at + 1 + fields(record[at])).contains(&place);
+    let at = items_of(record).into_iter().find(holds)?;
+    let (map, high_place) = (record[at], at + 1 + fields(record[at]));
+    let size = program.transitions.len();
+    if map & 128 == 0 {
+        let low = map & 2 != 0 && (number, place) == (5, at + 3);
+        return (low && size > 128).then_some("low byte alone too high of 129 to 255");
+    }
+    let bad_high = |&high: &u8| high == 0;
+    match number {
+        4 if place == high_place => Some("high byte missing"),
+        5 if place == high_place && record[place] == 0 => Some("high byte 0"),
+        5 if place == high_place && size > 256 => Some("high byte too high of more than 256"),
+        5 if place == high_place && size > 128 => Some("high byte too high of 129 to 256"),
+        5 if place == high_place => Some("high byte too high of at most 128"),
+        5 if record.get(high_place).is_some_and(bad_high) => {
+            Some("a field before a high byte of 0")
+        }
+        5 => Some("a field before a high byte"),
+        6 if matches!(record[at + 1], 7 | 8) => Some("bit 7 of a pop"),
+        6 if place == at => Some("bit 7 of a wrong map"),
+        _ => None,
+    }
+}
+
+/// What an input's answer shows of #107, if anything.
+fn seen(input: &Input, answer: Answer) -> Option<String> {
+    let Ok(program) = Program::read(&input.program) else {
+        return match answer {
+            Answer::Refused(refusal) => seen_of_the_count(&input.program, refusal).map(Into::into),
+            _ => panic!("an answer for a program that cannot be read"),
+        };
+    };
+    let places = items_of(&input.record);
+    let is_high = |&at: &usize| input.record[at] & 128 != 0;
+    match answer {
+        Answer::Order(_) if places.iter().any(is_high) => Some("order".into()),
+        Answer::Ring(_) if places.iter().any(is_high) => Some("ring".into()),
+        Answer::Refused(refusal) if refusal.number <= 6 => {
+            seen_of_the_item(&program, &input.record, refusal).map(Into::into)
+        }
+        Answer::Refused(Refusal { number, place }) if number <= 12 => {
+            let item = places.get(place).filter(|at| is_high(at));
+            item.map(|_| format!("refused {number} with a high byte"))
+        }
+        _ => None,
+    }
+}
+
+#[test]
+fn every_rule_of_107_is_seen() {
+    let mut times: BTreeMap<String, usize> = BTreeMap::new();
+    for index in 0..20_000 {
+        let input = input(8, index);
+        let answer = compare(&between_guards(&check_bytes), &input)
+            .unwrap_or_else(|fault| panic!("seed 8, index {index}: {fault}"));
+        if let Some(seen) = seen(&input, answer) {
+            *times.entry(seen).or_default() += 1;
+        }
+    }
+    println!("{times:#?}");
+    let rare: Vec<_> = times.iter().filter(|(_, &times)| times < 4).collect();
+    assert!(
+        times.len() == 24 && rare.is_empty(),
+        "{} seen, rare {rare:?}",
+        times.len()
+    );
+}
+
+#[test]
+fn a_widened_run_has_the_same_answer() {
+    let mut wide = 0;
+    for index in 0..1_000 {
+        let rng = &mut Rng::new(11, index);
+        let run = if index % 2 == 0 {
+            small_run(rng)
+        } else {
+            middle_run(rng)
+        };
+        let case = |(program, items): &Run| {
+            let (program, record) = (program.to_bytes(), record_bytes(items));
+            CheckCase::answered(String::new(), program, record, 40, 40)
+        };
+        let before = case(&run);
+        let run = widened(rng, run);
+        let after = case(&run);
+        wide += usize::from(takes_high(&run.1));
+        let (program, record) = (after.program.clone(), after.record.clone());
+        let same = CheckCase {
+            program,
+            record,
+            ..before
+        };
+        assert_eq!(after, same, "seed 11, index {index}");
+    }
+    println!("widened: 1000 runs, {wide} of them with transitions from 256 on");
+    assert!(wide >= 400);
 }

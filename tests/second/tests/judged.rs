@@ -1,10 +1,14 @@
 //! Arrows against the exhaustive judge on many small accepted records.
 
+mod common;
+
+use common::takes_high;
 use second::check::{accept, accept_items, Accepted};
 use second::generator::executions::{execution, pace};
 use second::generator::programs::{program, SMALL};
 use second::generator::rng::Rng;
 use second::generator::small_run;
+use second::generator::widen::now_and_then;
 use second::judge::judge;
 use second::judged::Verdicts;
 use second::machine::Start;
@@ -23,21 +27,25 @@ fn judge_and_count(verdicts: &mut Verdicts, accepted: &Accepted, start: &Start, 
 
 #[test]
 fn arrows_and_the_exhaustive_judge_agree() {
-    let mut counts = Verdicts::default();
+    let (mut counts, mut high) = (Verdicts::default(), 0);
     for index in 0..RECORDS {
-        let (program, items) = small_run(&mut Rng::new(1, index));
+        let rng = &mut Rng::new(1, index);
+        let run = small_run(rng);
+        let (program, items) = now_and_then(rng, run);
         let accepted = accept(&program.to_bytes(), &record_bytes(&items))
             .unwrap_or_else(|refusal| panic!("index {index}: {refusal:?}"));
         assert_eq!((&accepted.program, &accepted.items), (&program, &items));
         judge_and_count(&mut counts, &accepted, &Start::zero(&program), index);
+        high += usize::from(takes_high(&items));
     }
-    println!("judged: {counts:?}");
+    println!("judged: {counts:?}, {high} of them with transitions from 256 on");
     assert!(counts.own_orders >= 10_000, "too few orders");
     assert!(
         counts.other_orders >= 2_000,
         "too few orders other than the record's own"
     );
     assert!(counts.rings >= 6_000, "too few rings");
+    assert!(high >= 2_000, "too few with transitions from 256 on");
 }
 
 /// A start with random cells, registers and states.
@@ -62,6 +70,7 @@ fn they_agree_from_other_starts_too() {
         let start = random_start(rng, &program);
         let pace = pace(rng, 16, 7);
         let items = execution(rng, &program, &start, pace);
+        let (program, items) = now_and_then(rng, (program, items));
         let accepted = accept_items(program, items, &start)
             .unwrap_or_else(|refusal| panic!("index {index}: {refusal:?}"));
         judge_and_count(&mut counts, &accepted, &start, index);

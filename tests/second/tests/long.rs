@@ -1,43 +1,38 @@
 //! Records beyond the exhaustive search: loosened plain runs, and a bounded search.
 
+mod common;
+
+use common::{accepted, takes_high};
 use second::bounded::{find_bounded, judge_bounded, Found};
-use second::check::{accept, Accepted};
-use second::generator::rng::Rng;
 use second::generator::{long_loosened_run, middle_run, small_run};
 use second::judge::{find_plain_run, judge_order};
 use second::machine::Start;
 use second::order::Verdict;
-use second::program::Program;
-use second::record::{record_bytes, Item};
 
 /// Places a bounded search may visit.
 const LIMIT: usize = 20_000;
 
-/// The accepted run of these items.
-fn accepted((program, items): (Program, Vec<Item>)) -> Accepted {
-    accept(&program.to_bytes(), &record_bytes(&items)).expect("an execution is accepted")
-}
-
 #[test]
 fn loosened_plain_runs_have_an_order() {
-    let mut longest = 0;
+    let (mut longest, mut high) = (0, 0);
     for index in 0..250 {
-        let accepted = accepted(long_loosened_run(&mut Rng::new(21, index)));
+        let accepted = accepted(long_loosened_run, 21, index);
         let Verdict::Order(order) = &accepted.verdict else {
             panic!("seed 21, index {index}: a ring for the trace of a plain run");
         };
         judge_order(&accepted, &Start::zero(&accepted.program), order)
             .unwrap_or_else(|fault| panic!("seed 21, index {index}: {fault}"));
         longest = longest.max(accepted.items.len());
+        high += usize::from(takes_high(&accepted.items));
     }
-    println!("loosened: 250 orders, the longest record has {longest} items");
-    assert!(longest >= 1_000);
+    println!("loosened: 250 orders, the longest of {longest} items, {high} from 256 on");
+    assert!(longest >= 1_000 && high >= 10);
 }
 
 #[test]
 fn the_two_searches_agree_on_small_runs() {
     for index in 0..4_000 {
-        let accepted = accepted(small_run(&mut Rng::new(22, index)));
+        let accepted = accepted(small_run, 22, index);
         let start = Start::zero(&accepted.program);
         let exhaustive = find_plain_run(&accepted.program, &start, &accepted.run);
         let bounded = find_bounded(&accepted.program, &start, &accepted.run, LIMIT);
@@ -51,17 +46,18 @@ fn the_two_searches_agree_on_small_runs() {
 
 #[test]
 fn arrows_and_the_bounded_search_agree_on_middle_runs() {
-    let (mut orders, mut rings, mut unknown) = (0, 0, 0);
+    let (mut orders, mut rings, mut unknown, mut high) = (0, 0, 0, 0);
     for index in 0..5_000 {
-        let accepted = accepted(middle_run(&mut Rng::new(23, index)));
+        let accepted = accepted(middle_run, 23, index);
         let ended = judge_bounded(&accepted, &Start::zero(&accepted.program), LIMIT)
             .unwrap_or_else(|fault| panic!("seed 23, index {index}: {fault}"));
+        high += usize::from(takes_high(&accepted.items));
         match &accepted.verdict {
             _ if !ended => unknown += 1,
             Verdict::Order(_) => orders += 1,
             Verdict::Ring(_) => rings += 1,
         }
     }
-    println!("middle: {orders} orders, {rings} rings, {unknown} given up");
-    assert!(orders >= 1_000 && rings >= 1_000 && unknown < 100);
+    println!("middle: {orders} orders, {rings} rings, {unknown} given up, {high} from 256 on");
+    assert!(orders >= 1_000 && rings >= 1_000 && unknown < 100 && high >= 300);
 }

@@ -2,7 +2,7 @@
 
 mod common;
 
-use common::{refused, told};
+use common::{fields, is_cut, items_of, refused, told};
 use second::check::{check_bytes, Answer};
 use second::extras::{listed, slip_read, slip_written, Extras, Told, Writer};
 use second::forms::hold::{hold, Readers, Shown};
@@ -25,29 +25,6 @@ const fn pair(map: u8, kind: u8) -> Pair {
 /// The mistake that one pair is another.
 fn taken_for(wrong: Pair, pair: Pair) -> impl Fn(usize, Pair) -> Pair {
     move |_, old| if old == wrong { pair } else { old }
-}
-
-/// Where the items of a record begin, the fields passed over by the bits of each map.
-fn items_of(record: &[u8]) -> Vec<usize> {
-    let mut places = Vec::new();
-    let mut at = 2;
-    while at + 1 < record.len() {
-        places.push(at);
-        at += 2 + fields(record[at]);
-    }
-    places
-}
-
-/// The bytes of the fields that a map names.
-fn fields(map: u8) -> usize {
-    let bytes = [1, 1, 1, 1, 2, 2, 0, 1].into_iter().enumerate();
-    let named = bytes.filter(|(bit, _)| map & (1 << bit) != 0);
-    named.map(|(_, bytes)| bytes).sum()
-}
-
-/// Whether a record ends before all fields that the map at this place names.
-fn is_cut(record: &[u8], at: usize) -> bool {
-    at + 2 + fields(record[at]) > record.len()
 }
 
 /// The record as someone reads it who makes the mistake.

@@ -4,7 +4,7 @@ use super::Named;
 use crate::check::{accept, Accepted, Answer};
 use crate::corpus::{Case, CheckCase};
 use crate::generator::rng::Rng;
-use crate::generator::{input, small_run};
+use crate::generator::{input_before_107, small_run};
 use crate::judge::judge;
 use crate::limits::Refusal;
 use crate::machine::Start;
@@ -118,7 +118,7 @@ pub fn refused_file(seed: u64) -> Result<Named, String> {
         if found.len() == 15 && found.values().all(|places| places.len() >= PER_NUMBER) {
             break;
         }
-        let input = input(seed, index);
+        let input = input_before_107(seed, index);
         if input.program.len() > LARGEST || input.record.len() > LARGEST {
             continue;
         }

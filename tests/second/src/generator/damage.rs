@@ -161,7 +161,7 @@ fn reorder(rng: &mut Rng, program: &Program, items: &mut Vec<Item>) {
 }
 
 /// The item with one field changed inside its range.
-fn changed(rng: &mut Rng, program: &Program, mut item: Item) -> Item {
+pub fn changed(rng: &mut Rng, program: &Program, mut item: Item) -> Item {
     let some_rank = rng.within(1..=program.ranks);
     let some_cell = rng.below(program.cells);
     match (rng.below(4), &mut item) {
@@ -202,7 +202,7 @@ fn change_act(rng: &mut Rng, program: &Program, act: &mut Act, some_rank: usize)
 }
 
 /// Puts in an item that does not belong there: a pop, a bar, or a command that is refused.
-fn intrude(rng: &mut Rng, program: &Program, items: &mut Vec<Item>) {
+pub fn intrude(rng: &mut Rng, program: &Program, items: &mut Vec<Item>) {
     if items.len() >= MAX_ITEMS {
         return;
     }

@@ -1,5 +1,6 @@
 //! Seeded, repeatable inputs: random programs, executions of them, and damage.
 
+pub mod aimed;
 pub mod damage;
 pub mod executions;
 pub mod expressions;
@@ -7,14 +8,17 @@ pub mod loosen;
 pub mod programs;
 pub mod rng;
 pub mod slips;
+pub mod widen;
 
 use crate::families::extremes::extremes;
+use crate::limits::MAX_SHORT_COUNT;
 use crate::machine::Start;
 use crate::program::{Kind, Program};
 use crate::record::{read_record, record_bytes, Item};
 use executions::{execution, pace};
 use programs::{Size, CROWDED, MIDDLE, SMALL, WIDE};
 use rng::Rng;
+use widen::now_and_then;
 
 /// One input of the whole check.
 #[derive(Debug, Clone, PartialEq, Eq)]
@@ -168,14 +172,38 @@ fn roomy(rng: &mut Rng, program: &Program, items: &[Item]) -> Input {
 /// The small input of this number under this seed, for the exhaustive judge; none is damaged.
 pub fn small_input(seed: u64, index: u64) -> Input {
     let mut rng = Rng::new(seed, index);
-    let (program, items) = small_run(&mut rng);
+    let run = small_run(&mut rng);
+    let (program, items) = now_and_then(&mut rng, run);
     roomy(&mut rng, &program, &items)
+}
+
+/// What inputs are made of.
+#[derive(Debug, Clone, Copy, PartialEq, Eq)]
+enum Edition {
+    /// Document 01 alone, as the older corpus files were made. Nothing is drawn for #107, so that
+    /// they come out the same.
+    Before107,
+    /// #107 too: programs of more than 128 transitions, and damage aimed at its fields.
+    With107,
 }
 
 /// The input of this number under this seed; half of them are damaged.
 pub fn input(seed: u64, index: u64) -> Input {
+    made(seed, index, Edition::With107)
+}
+
+/// The input of this number under this seed as it was before #107.
+pub fn input_before_107(seed: u64, index: u64) -> Input {
+    made(seed, index, Edition::Before107)
+}
+
+/// The input of this number under this seed.
+fn made(seed: u64, index: u64, edition: Edition) -> Input {
     let mut rng = Rng::new(seed, index);
-    let (program, mut items) = any_run(&mut rng);
+    let (mut program, mut items) = any_run(&mut rng);
+    if edition == Edition::With107 {
+        (program, items) = now_and_then(&mut rng, (program, items));
+    }
     let mut input = roomy(&mut rng, &program, &items);
     if rng.chance(1, 2) {
         let times = *rng.pick(&[1, 1, 1, 2]);
@@ -183,5 +211,15 @@ pub fn input(seed: u64, index: u64) -> Input {
             damage::damage(&mut rng, &program, &mut items, &mut input);
         }
     }
+    if edition == Edition::With107 && is_aimed(&mut rng, &program) {
+        aimed::damage(&mut rng, &program, &mut items, &mut input);
+    }
     input
+}
+
+/// Whether damage is aimed at what #107 brings: every other time where a program has more than 128
+/// transitions, and else one in sixteen times.
+fn is_aimed(rng: &mut Rng, program: &Program) -> bool {
+    let long = program.transitions.len() > MAX_SHORT_COUNT;
+    rng.chance(1, if long { 2 } else { 16 })
 }

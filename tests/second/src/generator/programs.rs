@@ -43,7 +43,7 @@ pub const MIDDLE: Size = Size {
     transitions: 16,
     operators: 4,
 };
-/// Programs up to all the limits of document 01.
+/// Programs up to all the limits of document 01; `widen` takes them beyond its T.
 pub const WIDE: Size = Size {
     ranks: 8,
     cells: 64,
@@ -107,7 +107,7 @@ pub fn program(rng: &mut Rng, size: Size) -> Program {
 }
 
 /// A random transition; the first S of them leave each state once and lead on to the next.
-fn transition(rng: &mut Rng, program: &Program, number: usize, operators: usize) -> Transition {
+pub fn transition(rng: &mut Rng, program: &Program, number: usize, operators: usize) -> Transition {
     let states = program.states;
     let from = if number < states {
         number

@@ -1,16 +1,19 @@
-//! What the tests of wrong subjects share; no test uses all of it.
+//! What several tests share; no test uses all of it.
 
 #![allow(dead_code)]
 
-use second::check::Answer;
+use second::check::{accept, Accepted, Answer};
 use second::corpus::{Case, CheckCase, SlipCase};
 use second::corpus_reader::{corpus_files, read_file};
 use second::extras::{compare_all_ranks, compare_extras, compare_slip_reader, Extras, Tally, Told};
+use second::generator::rng::Rng;
 use second::generator::slips::slip_input;
+use second::generator::widen::{now_and_then, Run};
 use second::generator::{input, small_input};
 use second::harness::{between_guards, compare, compare_case, Subject};
 use second::judged::judge_observed;
 use second::limits::Refusal;
+use second::record::{record_bytes, Item};
 use std::path::Path;
 
 /// Generated inputs that a wrong subject has to be caught within.
@@ -123,4 +126,41 @@ pub fn told(number: u8, value: usize) -> Told {
 /// A refusal as an answer.
 pub fn refused(number: u8, place: usize) -> Answer {
     Answer::Refused(Refusal { number, place })
+}
+
+/// Where the items of a record begin, the fields passed over by the bits of each map.
+pub fn items_of(record: &[u8]) -> Vec<usize> {
+    let mut places = Vec::new();
+    let mut at = 2;
+    while at + 1 < record.len() {
+        places.push(at);
+        at += 2 + fields(record[at]);
+    }
+    places
+}
+
+/// The bytes of the fields that a map names.
+pub fn fields(map: u8) -> usize {
+    let bytes = [1, 1, 1, 1, 2, 2, 0, 1].into_iter().enumerate();
+    let named = bytes.filter(|(bit, _)| map & (1 << bit) != 0);
+    named.map(|(_, bytes)| bytes).sum()
+}
+
+/// Whether a record ends before all fields that the map at this place names.
+pub fn is_cut(record: &[u8], at: usize) -> bool {
+    at + 2 + fields(record[at]) > record.len()
+}
+
+/// The accepted run of this number under this seed, made so and now and then widened.
+pub fn accepted(made: fn(&mut Rng) -> Run, seed: u64, index: u64) -> Accepted {
+    let rng = &mut Rng::new(seed, index);
+    let run = made(rng);
+    let (program, items) = now_and_then(rng, run);
+    accept(&program.to_bytes(), &record_bytes(&items)).expect("an execution is accepted")
+}
+
+/// Whether an item takes a transition from 256 on.
+pub fn takes_high(items: &[Item]) -> bool {
+    let is_high = |item: &Item| item.act.transition() >= Some(256);
+    items.iter().any(is_high)
 }
