@@ -59,21 +59,28 @@ fn table_file() -> Result<Named, String> {
     Ok(Named::new("table.txt", head, &cases?))
 }
 
-/// Places a bounded search may visit for an extreme.
+/// Places a bounded search may visit for a case.
 const SEARCH_LIMIT: usize = 20_000;
+
+/// If an input is accepted, its order must be that of a plain run, and the search, if it comes to
+/// an end, must agree.
+fn judge_accepted(program: &[u8], record: &[u8]) -> Result<(), String> {
+    if let Ok(accepted) = accept(program, record) {
+        let start = Start::zero(&accepted.program);
+        if let Verdict::Order(order) = &accepted.verdict {
+            judge_order(&accepted, &start, order)?;
+        }
+        judge_bounded(&accepted, &start, SEARCH_LIMIT)?;
+    }
+    Ok(())
+}
 
 /// The file of extremes; every order is replayed as a plain run, and the searches that come to an
 /// end must agree.
 fn extremes_file() -> Result<Named, String> {
     let mut cases = Vec::new();
     for extreme in extremes::extremes() {
-        if let Ok(accepted) = accept(&extreme.program, &extreme.record) {
-            let start = Start::zero(&accepted.program);
-            if let Verdict::Order(order) = &accepted.verdict {
-                judge_order(&accepted, &start, order)?;
-            }
-            judge_bounded(&accepted, &start, SEARCH_LIMIT)?;
-        }
+        judge_accepted(&extreme.program, &extreme.record)?;
         let name = extreme.name.to_string();
         let (program, record) = (extreme.program, extreme.record);
         let lists = (MAX_ITEMS, MAX_RANKS * MAX_CELLS);

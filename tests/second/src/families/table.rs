@@ -1,4 +1,5 @@
-//! Cases for every row of document 01's table, their numbers and places worked out by hand.
+//! Cases for every row of document 01's table, their numbers and places worked out by hand. They are
+//! document 01's alone: #107 answers the count byte of 255 otherwise, as `overtaken` says.
 
 use super::base::{join, one, program_with, record_of, record_with, BASE_PROGRAM, BASE_RECORD};
 use super::row::Row;

@@ -102,7 +102,6 @@ fn left_over() -> Vec<Row> {
     vec![
         of("one-left", 128, 128, &[0], 6 + 4 * 128),
         of("one-left", 129, 129, &[0], 8 + 4 * 129),
-        of("one-left", 255, 255, &[1], 8 + 4 * 255),
         of("one-left", 256, 256, &[1], 8 + 4 * 256),
         of("one-left", 257, 257, &[255], 8 + 4 * 257),
         of("one-left", 400, 400, &[0], 8 + 4 * 400),
@@ -111,7 +110,6 @@ fn left_over() -> Vec<Row> {
         of("transition-left", 256, 257, &[], 8 + 4 * 256),
         of("transition-left", 399, 400, &[], 8 + 4 * 399),
         of("transition-left", 400, 401, &[], 8 + 4 * 400),
-        of("high-count-left", 144, 400, &[], 8 + 4 * 144),
     ]
 }
 
@@ -126,9 +124,7 @@ fn cut_transitions() -> Vec<Row> {
         (400, place_of(255) + 1),
         (400, place_of(256)),
         (400, place_of(256) + 1),
-        (400, place_of(257) - 1),
         (400, place_of(399)),
-        (400, place_of(399) + 2),
         (400, place_of(400) - 1),
         (129, place_of(128)),
         (129, place_of(129) - 1),

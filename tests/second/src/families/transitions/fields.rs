@@ -110,7 +110,7 @@ fn numbered(form: &High, low: u8, high: u8) -> Vec<u8> {
 
 /// A refused row of one item's bytes beside a program of so many transitions.
 fn row(what: &str, form: &High, size: usize, item: &[u8], refusal: (u8, usize)) -> Row {
-    let what = format!("{}-of-{size}-{what}", form.name);
+    let what = format!("{}-in-{size}-{what}", form.name);
     let inputs = [program(form, size).to_bytes(), one(item)];
     refused_bytes(&what, inputs, refusal.0, refusal.1)
 }
@@ -192,40 +192,57 @@ fn other_sizes() -> Vec<Row> {
     rows
 }
 
-/// Items that end before the high byte, or in the fields before it.
+/// Items that end before the high byte, or in the fields before it: 4 at the length. Of the longest
+/// form each byte is once the first that is missing.
 fn cut_items(form: &High) -> Vec<Row> {
     let whole = numbered(form, 1, 1);
-    let cut = |what, size, by: usize| {
-        let item = &whole[..whole.len() - by];
-        row(what, form, size, item, (4, form.high + 1 - by))
-    };
+    let mut rows = Vec::new();
+    let longest = form.name == "load-with-value";
+    let shortest = if longest { 0 } else { whole.len() - 2 };
+    for length in shortest..whole.len() {
+        let item = &whole[..length];
+        rows.push(row("cut", form, 2, item, (4, 2 + length)));
+    }
     let mut bad_low = numbered(form, 200, 1);
     bad_low.pop();
-    vec![
-        cut("no-high", 258, 1),
-        cut("no-high", 2, 1),
-        cut("two-missing", 2, 2),
-        row("low-200-no-high", form, 2, &bad_low, (4, form.high)),
-    ]
+    rows.push(row("low-200-no-high", form, 2, &bad_low, (4, form.high)));
+    if LARGE.contains(&form.name) {
+        let item = &whole[..whole.len() - 1];
+        rows.push(row("no-high", form, 258, item, (4, form.high)));
+    }
+    rows
 }
+
+/// The forms with which faults are also shown beside larger programs.
+const LARGE: [&str; 3] = ["store-with-value", "read", "bar"];
 
 /// Fields that are outside their range before a high byte that is, too: the first is told.
 fn faults_before(form: &High) -> Vec<Row> {
     let mut rows = Vec::new();
-    let mut of = |what: &str, changes: &[(usize, u8)], place| {
+    let mut of = |what: &str, size, changes: &[(usize, u8)], place| {
         let mut item = numbered(form, 255, 0);
         for &(at, byte) in changes {
             item[at] = byte;
         }
-        rows.push(row(what, form, 2, &item, (5, place)));
+        rows.push(row(what, form, size, &item, (5, place)));
     };
-    of("rank-0-before-high-0", &[(RANK, 0)], 4);
-    of("rank-3-before-high-0", &[(RANK, 3)], 4);
+    let large: &[usize] = if LARGE.contains(&form.name) {
+        &[200, 258]
+    } else {
+        &[]
+    };
+    for &size in [&[2], large].concat().iter() {
+        of("rank-0-before-high-0", size, &[(RANK, 0)], 4);
+        if form.item.place.is_some() {
+            of("place-rank-3-before-high-0", size, &[(OWNER, 3)], 6);
+            let cell = CELLS as u8;
+            of("cell-8-before-high-0", size, &[(CELL + 1, cell)], 7);
+        }
+    }
+    of("rank-3-before-high-0", 2, &[(RANK, 3)], 4);
     if form.item.place.is_some() {
-        of("place-rank-0-before-high-0", &[(OWNER, 0)], 6);
-        of("place-rank-3-before-high-0", &[(OWNER, 3)], 6);
-        of("cell-8-before-high-0", &[(CELL + 1, CELLS as u8)], 7);
-        of("cell-256-before-high-0", &[(CELL, 1)], 7);
+        of("place-rank-0-before-high-0", 2, &[(OWNER, 0)], 6);
+        of("cell-256-before-high-0", 2, &[(CELL, 1)], 7);
     }
     rows
 }
@@ -243,7 +260,7 @@ fn low_bytes_alone() -> Vec<Row> {
         (255, 255),
     ] {
         let inputs = [sparse(size, &[]).to_bytes(), one(&[3, 3, 1, low])];
-        let what = format!("low-{low}-alone-of-{size}");
+        let what = format!("low-{low}-alone-in-{size}");
         rows.push(refused_bytes(&what, inputs, 5, 5));
     }
     rows

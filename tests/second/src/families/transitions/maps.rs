@@ -28,13 +28,16 @@ fn with_high_byte(item: &Item) -> Vec<u8> {
 /// A refused row of one item's bytes beside a program of so many transitions.
 fn row(what: &str, size: usize, item: &[u8], place: usize) -> Row {
     let program = sparse(size, &[(size - 1, bar())]).to_bytes();
-    refused_bytes(&format!("{what}-of-{size}"), [program, one(item)], 6, place)
+    refused_bytes(&format!("{what}-in-{size}"), [program, one(item)], 6, place)
 }
 
 /// Pops with bit 7, with and without a value.
 fn with_pops() -> Vec<Row> {
     let mut rows = Vec::new();
-    for (name, item) in [("popa", popa(1, (1, 0))), ("popb", popb(1, (1, 0)))] {
+    for (name, item) in [
+        ("bit-7-of-popa", popa(1, (1, 0))),
+        ("bit-7-of-popb", popb(1, (1, 0))),
+    ] {
         let valued = Item {
             value: Some(0),
             ..item

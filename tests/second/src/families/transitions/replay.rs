@@ -7,6 +7,7 @@ use super::build::{
 };
 use super::{accepted, own_order, refused};
 use crate::corpus::Expected;
+use crate::expression::Expression;
 use crate::families::row::Row;
 use crate::limits::Refusal;
 use crate::program::{Kind, Program, Transition};
@@ -35,49 +36,47 @@ fn pair(high: Transition, low: Transition) -> Program {
 /// Row 7: from another state, or of another kind, where the low byte's transition fits or not.
 fn transitions() -> Vec<Row> {
     let of = |what: &str, high, low, items: &[Item], place| {
-        refused(what, &pair(high, low), items, 7, place)
+        let what = format!("number-257-{what}");
+        refused(&what, &pair(high, low), items, 7, place)
     };
     let stored = |number| at(command(Kind::Store, 1, number), 0);
-    let assigned = command(Kind::Assign, 1, 257);
+    let assigned = |rank, number| command(Kind::Assign, rank, number);
     let away = Transition { to: 1, ..assign(1) };
-    let from_1 = Transition {
+    let from_1 = || Transition {
         from: 1,
         ..assign(1)
     };
-    let last = sparse(400, &[(143, assign(1)), (399, store(0, 1))]);
+    let both = [assigned(1, 257), assigned(1, 257)];
+    let bar_item = command(Kind::Bar, 1, 257);
+    let of_399 = sparse(400, &[(143, assign(1)), (399, store(0, 1))]);
+    let of_256 = sparse(257, &[(0, assign(1)), (256, from_1())]);
     vec![
+        of("other-state-low-fits", from_1(), assign(1), &both[..1], 0),
+        of("other-state", from_1(), idle(), &both[..1], 0),
         of(
-            "state-1-low-fits",
-            from_1.clone(),
-            assign(1),
-            &[assigned],
+            "other-kind-low-fits",
+            load(0),
+            store(0, 1),
+            &[stored(257)],
             0,
         ),
-        of("state-1", from_1.clone(), idle(), &[assigned], 0),
-        of("kind-low-fits", load(0), store(0, 1), &[stored(257)], 0),
-        of("kind-low-too", load(0), load(0), &[stored(257)], 0),
-        of("bar-said-assign", bar(), assign(1), &[assigned], 0),
-        of(
-            "assign-said-bar",
-            assign(1),
-            bar(),
-            &[command(Kind::Bar, 1, 257)],
-            0,
-        ),
-        of("low-taken-high-fits", store(0, 1), load(0), &[stored(1)], 0),
-        of("state-left", away, assign(1), &[assigned, assigned], 1),
-        refused("kind-of-399", &last, &[command(Kind::Assign, 1, 399)], 7, 0),
+        of("other-kind-low-too", load(0), load(0), &[stored(257)], 0),
+        of("bar-said-assign", bar(), assign(1), &both[..1], 0),
+        of("assign-said-bar", assign(1), bar(), &[bar_item], 0),
+        of("fits-but-1-taken", store(0, 1), load(0), &[stored(1)], 0),
+        of("state-left", away, assign(1), &both, 1),
+        refused("number-399-other-kind", &of_399, &[assigned(1, 399)], 7, 0),
         refused(
-            "second-item-of-399",
-            &last,
-            &[command(Kind::Assign, 1, 143), command(Kind::Assign, 2, 399)],
+            "number-399-of-rank-2",
+            &of_399,
+            &[assigned(1, 143), assigned(2, 399)],
             7,
             1,
         ),
         refused(
-            "second-of-rank-2-from-256",
-            &sparse(257, &[(0, store(0, 1)), (256, from_1)]),
-            &[stored(0), at(command(Kind::Store, 2, 256), 0)],
+            "number-256-of-rank-2",
+            &of_256,
+            &[assigned(1, 0), assigned(2, 256)],
             7,
             1,
         ),
@@ -86,13 +85,16 @@ fn transitions() -> Vec<Row> {
 
 /// Row 8: each evaluated number outside its range, where the low byte's transition has it inside.
 fn evaluated() -> Vec<Row> {
-    let of = |what: &str, high, low, item| refused(what, &pair(high, low), &[item], 8, 0);
+    let of = |what: &str, high, low, item| {
+        let what = format!("number-257-{what}");
+        refused(&what, &pair(high, low), &[item], 8, 0)
+    };
     let stored = at(command(Kind::Store, 1, 257), 0);
     let loaded = giving(at(command(Kind::Load, 1, 257), 0), 0);
     let written = command(Kind::Write, 1, 257);
     let asked = command(Kind::Read, 1, 257);
     let mut other_queue = write(0, 2, 0);
-    other_queue.expressions[3] = crate::expression::Expression::Constant(1);
+    other_queue.expressions[3] = Expression::Constant(1);
     vec![
         of("store-cell-8", store(8, 1), store(0, 1), stored),
         of("load-cell-256", load(256), load(0), loaded),
@@ -111,10 +113,16 @@ fn assumes() -> Vec<Row> {
     let assumed = |number| command(Kind::Assume, 1, number);
     let program = pair(assume(0), assume(1));
     vec![
-        refused("assume-low-passes", &program, &[assumed(257)], 9, 0),
-        refused("second-assume", &program, &[assumed(1), assumed(257)], 9, 1),
+        refused("number-257-low-passes", &program, &[assumed(257)], 9, 0),
         refused(
-            "low-assume",
+            "number-257-after-low",
+            &program,
+            &[assumed(1), assumed(257)],
+            9,
+            1,
+        ),
+        refused(
+            "number-1-high-passes",
             &pair(assume(1), assume(0)),
             &[assumed(1)],
             9,
@@ -128,9 +136,21 @@ fn pops() -> Vec<Row> {
     let program = pair(write(0, 2, 0), write(0, 2, 0));
     let written = command(Kind::Write, 1, 257);
     vec![
-        refused("popa-first", &program, &[popa(1, (1, 0))], 10, 0),
-        refused("popb-first", &program, &[written, popb(1, (2, 0))], 10, 1),
-        refused("rank-2-popa", &program, &[written, popa(2, (1, 0))], 10, 1),
+        refused("number-257-popa-first", &program, &[popa(1, (1, 0))], 10, 0),
+        refused(
+            "number-257-popb-first",
+            &program,
+            &[written, popb(1, (2, 0))],
+            10,
+            1,
+        ),
+        refused(
+            "number-257-rank-2-popa",
+            &program,
+            &[written, popa(2, (1, 0))],
+            10,
+            1,
+        ),
     ]
 }
 
@@ -143,13 +163,31 @@ fn places() -> Vec<Row> {
     let loaded = |cell| at(command(Kind::Load, 1, 257), cell);
     let written = command(Kind::Write, 1, 257);
     vec![
-        refused("store-place", &stores, &[stored(1)], 11, 0),
-        refused("store-value", &stores, &[giving(stored(0), 8)], 11, 0),
-        refused("load-place", &loads, &[loaded(1)], 11, 0),
-        refused("load-value", &loads, &[giving(loaded(0), 1)], 11, 0),
-        refused("popa-place", &writes, &[written, popa(1, (1, 1))], 11, 1),
+        refused("number-257-store-place", &stores, &[stored(1)], 11, 0),
         refused(
-            "popb-place",
+            "number-257-store-value",
+            &stores,
+            &[giving(stored(0), 8)],
+            11,
+            0,
+        ),
+        refused("number-257-load-place", &loads, &[loaded(1)], 11, 0),
+        refused(
+            "number-257-load-value",
+            &loads,
+            &[giving(loaded(0), 1)],
+            11,
+            0,
+        ),
+        refused(
+            "number-257-popa-place",
+            &writes,
+            &[written, popa(1, (1, 1))],
+            11,
+            1,
+        ),
+        refused(
+            "number-257-popb-place",
             &writes,
             &[written, popa(1, (1, 0)), popb(1, (2, 4))],
             11,
@@ -164,12 +202,24 @@ fn barriers() -> Vec<Row> {
     let bar_of = |rank| command(Kind::Bar, rank, 257);
     let assigned = command(Kind::Assign, 2, 1);
     vec![
-        refused("bar-2-first", &program, &[bar_of(2)], 12, 0),
-        refused("bar-1-twice", &program, &[bar_of(1), bar_of(1)], 12, 1),
-        refused("assign-in-row", &program, &[bar_of(1), assigned], 12, 1),
-        refused("row-open", &program, &[bar_of(1)], 12, 1),
+        refused("number-257-bar-2-first", &program, &[bar_of(2)], 12, 0),
         refused(
-            "bar-2-first-before-7",
+            "number-257-bar-1-twice",
+            &program,
+            &[bar_of(1), bar_of(1)],
+            12,
+            1,
+        ),
+        refused(
+            "number-257-assign-in-row",
+            &program,
+            &[bar_of(1), assigned],
+            12,
+            1,
+        ),
+        refused("number-257-row-open", &program, &[bar_of(1)], 12, 1),
+        refused(
+            "number-256-bar-2-first-before-7",
             &program,
             &[command(Kind::Bar, 2, 256)],
             12,
@@ -183,9 +233,9 @@ fn ends() -> Vec<Row> {
     let program = pair(write(0, 2, 0), read(0, 2, 0));
     let written = command(Kind::Write, 1, 257);
     vec![
-        refused("request-left", &program, &[written], 13, 1),
+        refused("number-257-request-left", &program, &[written], 13, 1),
         refused(
-            "delivery-left",
+            "number-257-delivery-left",
             &program,
             &[written, popa(1, (1, 0))],
             13,
