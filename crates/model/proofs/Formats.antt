@@ -4,12 +4,12 @@
 -- A reader that goes by the narrower format is kept by the one that goes by the wider: whatever the first finds, the second finds there. There is a
 -- rule for each way in which readers are put together.
 use Prim.Native.Nat.{ℕ, zero, suc, _+_, _/_, _≤_}
-use mathlib.Core.Path.{_≡_, refl}
+use mathlib.Core.Path.{_≡_}
 use mathlib.Core.Bool.{Bool, true, false}
-use mathlib.Core.List.{List, _∷_}
+use mathlib.Core.List.{List}
 use mathlib.Core.Option.{Option, some, none}
 use native.Mathlib.Omega.{arith}
-use lib.Dec.{ltb, leb, eqb}
+use lib.Dec.{leb, eqb}
 use lib.ListN.{length}
 use borrow.Author.Tests.{lt-ltb, ltb-true}
 use Rattle.model.specs.declared.Header.{Header}
@@ -22,16 +22,15 @@ use Rattle.model.specs.Choice.{between, lookup, member}
 use Rattle.model.specs.Bytes.{Found, Reader, _>>=_, here, byte, word, judged, optional, times, whole}
 use Rattle.model.specs.ItemKinds.{itemKinds}
 use Rattle.model.specs.Formats.{Format, document01, today, original}
-use Rattle.model.specs.Programs.{Program, headerNumber, countByte, transitionCount, readHeaderIn, readTransition, programReaderIn, readProgramIn}
+use Rattle.model.specs.Programs.{Program, headerNumber, countByte, transitionCount, readHeaderIn, programReaderIn, readProgramIn}
 use Rattle.model.specs.ItemForms.{formOf, itemFormIn, judgedItemForm}
-use Rattle.model.specs.Records.{itemFields, readItemIn, recordReaderIn, readRecordIn}
+use Rattle.model.specs.Records.{readItemIn, recordReaderIn, readRecordIn}
 use Rattle.model.specs.Machine.{Start, zeroStart}
-use Rattle.model.specs.Replay.{replay}
 use Rattle.model.specs.Checks.{Accepted, acceptIn, checkResultIn, checkIn, checkBytesIn}
 use Rattle.model.specs.Slips.{writeSlipIn}
 use Rattle.model.specs.Listings.{listingIn}
 use Rattle.model.proofs.Laws.{refused≢ok, bind-ok, decided, between-true, true-between, eqb-refl}
-use Rattle.model.proofs.Bytes.{judged-ok, times-none, times-more, whole-ok}
+use Rattle.model.proofs.Bytes.{judged-ok, whole-ok}
 use Rattle.model.proofs.ItemForms.{original-maps, today-maps}
 
 -- As many transitions at least, and every map.

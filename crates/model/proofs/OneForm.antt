@@ -3,7 +3,7 @@
 --
 -- What was read at a place stands there: the bytes from the place on are some bytes that hold of the value, and behind them those from the next place
 -- on. There is a rule for each way in which readers are put together.
-use Prim.Native.Nat.{ℕ, _+_, _*_, _/_, _%_, _<_, _≤_}
+use Prim.Native.Nat.{ℕ, _+_, _*_, _/_, _%_, _<_}
 use mathlib.Core.Path.{_≡_, refl, sym, ap, ap₂, subst, _∙_}
 use mathlib.Core.Bool.{Bool, true, false, not, _&&_}
 use mathlib.Core.List.{List, [], _∷_, _++_, append-nil, append-assoc}
@@ -26,7 +26,7 @@ use Rattle.model.specs.Choice.{between, bit}
 use Rattle.model.specs.Bytes.{AreBytes, Found, found, Reader, _>>=_, pure, here, byte, word, wordBytes, judged, optional}
 use Rattle.model.specs.ItemKinds.{kindNumber, itemKinds, hasPlace, isCommandKind}
 use Rattle.model.specs.Formats.{HasMap, itemMaps}
-use Rattle.model.specs.ItemForms.{FormIs, good, unknown-kind, wrong-map, itemForm, judgedItemForm}
+use Rattle.model.specs.ItemForms.{FormIs, good, unknown-kind, wrong-map, judgedItemForm}
 use Rattle.model.specs.Records.{field, lowByte, highByte, givenValue, itemFields, readItemIn, readItem}
 use Rattle.model.specs.Replay.{every}
 use Rattle.model.proofs.Laws.{ok-injective, bind-ok, refused≢ok, and-true}

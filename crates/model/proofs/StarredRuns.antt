@@ -283,11 +283,8 @@ verdictRows =
 pub transitionRows : List Row
 unfolding orderRow refusedRow assumeOf storeTo barsThenStore longStore longAssume
 transitionRows =
-    -- transition 256 of 257; a number of T or more; a value that the replay does not find; a transition of another kind
+    -- transition 256 of 257
     orderRow (barsThenStore 1 1 256) (longStore 0 1 7 1) (0 ∷ []) (7 ∷ []) ∷
-    refusedRow (barsThenStore 1 1 256) (longStore 1 1 7 1) 5 11 ∷
-    refusedRow (barsThenStore 1 1 256) (longStore 0 1 8 1) 11 0 ∷
-    refusedRow (barsThenStore 1 1 256) (longAssume 1 0 1) 7 0 ∷
     -- "A count byte 129..254 or a two-byte count not 129..400 gets 2"; a missing byte is 1 at the length
     refusedRow (1 ∷ 1 ∷ 1 ∷ 1 ∷ 1 ∷ 129 ∷ []) [] 2 5 ∷
     refusedRow (1 ∷ 1 ∷ 1 ∷ 1 ∷ 1 ∷ 254 ∷ []) [] 2 5 ∷

@@ -25,7 +25,7 @@ use Rattle.fields.proofs.Fields.{field-told, field-goes-on}
 use Rattle.record.specs.declared.item.ItemRead as ItemRead
 use Rattle.record.specs.declared.item.ItemRead.{ItemRead}
 use Rattle.record.specs.Optional.{rankField, numberField, lowField, transitionField, cellField, valueField}
-use Rattle.record.specs.Items.{bare, given, withGiven, itemRead, readActor, readQueue, readPlace, readGiven, readHigh}
+use Rattle.record.specs.Items.{bare, given, withEnd, itemRead, readActor, readQueue, readPlace, readEnd}
 
 -- What follows map and kind, which stand at `at`.
 abbrev judgedItem : Header → (at map kind : ℕ) → Reader Item
@@ -33,7 +33,7 @@ judgedItem header at map kind = judgedItemForm at (itemForm map kind) >>= (λ k.
 
 pub readItem-is : (header : Header) (bytes : List ℕ) (at : ℕ) →
     readItem header bytes at ≡ (byte recordLength >>= (λ map. byte recordLength >>= judgedItem header at map)) bytes at
-unfolding readItemIn itemFields field _>>=_ rankField numberField lowField transitionField cellField readActor readQueue readPlace readGiven readHigh
+unfolding readItemIn itemFields field _>>=_ rankField numberField lowField transitionField cellField readActor readQueue readPlace readEnd
 readItem-is header bytes at = refl
 
 -- Behind map and kind the verdict on both decides.
@@ -69,11 +69,13 @@ unfolding _>>=_ valueField givenValue
 given-is true rest bytes at = bind-assoc (word recordLength bytes at) _ _
 given-is false rest bytes at = refl
 
-pub readGiven-is : (header : Header) (map : ℕ) (item : Item) (bytes : List ℕ) (at : ℕ) →
-    readGiven header map item bytes at
-    ≡ (valueField (bit 5 map) >>= (λ v. readHigh header map (withGiven item (given (bit 5 map) v)))) bytes at
-unfolding readGiven
-readGiven-is header map item bytes at = given-is (bit 5 map) (λ g. readHigh header map (withGiven item g)) bytes at
+pub readEnd-is : (header : Header) (map : ℕ) (item : Item) (bytes : List ℕ) (at : ℕ) →
+    readEnd header map item bytes at
+    ≡ (valueField (bit 5 map) >>= (λ v.
+    transitionField (bit 7 map) (header .transitions) (item .transition) >>= (λ t. pure (withEnd item t (given (bit 5 map) v))))) bytes at
+unfolding readEnd
+readEnd-is header map item bytes at =
+    given-is (bit 5 map) (λ g. transitionField (bit 7 map) (header .transitions) (item .transition) >>= (λ t. pure (withEnd item t g))) bytes at
 
 -- An item that was read, and one that was not.
 abbrev resultOf : ItemRead → Result (Found Item)

@@ -33,33 +33,28 @@ abbrev pub withPlace : Item → Address → Item
 withPlace item place =
     record { kind = item .kind; rank = item .rank; transition = item .transition; queue = item .queue; place = place; given = item .given }
 
-abbrev pub withGiven : Item → Given → Item
-withGiven item given =
-    record { kind = item .kind; rank = item .rank; transition = item .transition; queue = item .queue; place = item .place; given = given }
+abbrev pub withEnd : Item → (transition : ℕ) → Given → Item
+withEnd item transition given =
+    record { kind = item .kind; rank = item .rank; transition = transition; queue = item .queue; place = item .place; given = given }
 
 -- A value that was read, or none.
 abbrev pub given : (present : Bool) → (value : ℕ) → Given
 given true value = Value value
 given false value = Absent
 
--- The transition's high byte, which ends the item.
-unfoldable pub readHigh : Header → (map : ℕ) → Item → Reader Item
-readHigh header map item = do
-  transition ← transitionField (bit 7 map) (header .transitions) (item .transition)
-  pure (withActor item (item .rank) transition)
-
--- The value and what follows it.
-unfoldable pub readGiven : Header → (map : ℕ) → Item → Reader Item
-readGiven header map item = do
+-- The value and the transition's high byte, which end the item.
+unfoldable pub readEnd : Header → (map : ℕ) → Item → Reader Item
+readEnd header map item = do
   given ← optional (bit 5 map) Absent givenValue
-  readHigh header map (withGiven item given)
+  transition ← transitionField (bit 7 map) (header .transitions) (item .transition)
+  pure (withEnd item transition given)
 
 -- The place and what follows it.
 unfoldable pub readPlace : Header → (map : ℕ) → Item → Reader Item
 readPlace header map item = do
   rank ← rankField (bit 3 map) (header .ranks)
   cell ← cellField (bit 4 map) (header .cells)
-  readGiven header map (withPlace item (record { rank = rank; cell = cell }))
+  readEnd header map (withPlace item (record { rank = rank; cell = cell }))
 
 -- The queue and what follows it.
 unfoldable pub readQueue : Header → (map : ℕ) → Item → Reader Item

@@ -1,10 +1,10 @@
 // One item at a place: map and kind, then the fields whose bit stands, in bit order. Each function reads one or two fields into the item and hands it
 // on, so that an item is read once, front to back, and its first fault is the answer.
 use crate::optional::read_cell;
-use crate::optional::read_transition;
 use crate::optional::read_low_byte;
 use crate::optional::read_number;
 use crate::optional::read_rank;
+use crate::optional::read_transition;
 use crate::optional::read_value;
 use fields::Field;
 use fields::bit;
@@ -21,7 +21,7 @@ use model::refusals::RECORD_FORM;
 use model::refusals::RECORD_LENGTH;
 ghost use mathlib.Core.Path.{_≡_};
 ghost use Rattle.model.specs.Records.{readItem};
-ghost use Rattle.record.specs.Items.{bare, given, withGiven, itemRead, readActor, readQueue, readPlace, readGiven, readHigh};
+ghost use Rattle.record.specs.Items.{bare, given, withEnd, itemRead, readActor, readQueue, readPlace, readEnd};
 
 // What stands at a place: an item and the place after it, or the refusal.
 pub enum ItemRead {
@@ -117,38 +117,28 @@ fn read_place(bytes: &[u8], at: usize, header: Header, map: u16, mut item: Item)
     };
     let place = Address { rank, cell };
     item.place = place;
-    read_given(bytes, next, header, map, item)
+    read_end(bytes, next, header, map, item)
 }
 
-// The value.
-fn read_given(bytes: &[u8], at: usize, header: Header, map: u16, item: Item) -> ItemRead
-    ensures { λ r. ⌜ r ≡ itemRead (readGiven header map item (now (bytes .entry)) at) ⌝ }
+// The value and the transition's high byte, which end the item.
+fn read_end(bytes: &[u8], at: usize, header: Header, map: u16, item: Item) -> ItemRead
+    ensures { λ r. ⌜ r ≡ itemRead (readEnd header map item (now (bytes .entry)) at) ⌝ }
 {
     let present = bit(map, 5);
-    let read = read_value(bytes, at, present);
-    let Field::Read(value, next) = read else {
-        return ItemRead::Refused(read.refusal());
+    let first = read_value(bytes, at, present);
+    let Field::Read(value, high_at) = first else {
+        return ItemRead::Refused(first.refusal());
     };
-    let valued = with_given(item, given(present, value));
-    read_high(bytes, next, header, map, valued)
-}
-
-// The high byte of the transition's number, which ends the item.
-fn read_high(bytes: &[u8], at: usize, header: Header, map: u16, mut item: Item) -> ItemRead
-    ensures { λ r. ⌜ r ≡ itemRead (readHigh header map item (now (bytes .entry)) at) ⌝ }
-{
-    let read = read_transition(
-        bytes,
-        at,
-        bit(map, 7),
-        item.transition,
-        header.transitions,
-    );
-    let Field::Read(transition, next) = read else {
-        return ItemRead::Refused(read.refusal());
+    let low = item.transition;
+    let high = bit(map, 7);
+    let second = read_transition(bytes, high_at, high, low, header.transitions);
+    let Field::Read(transition, next) = second else {
+        return ItemRead::Refused(second.refusal());
     };
-    item.transition = transition;
-    ItemRead::Read { item, next }
+    ItemRead::Read {
+        item: with_end(item, transition, given(present, value)),
+        next,
+    }
 }
 
 // A value that was read, or none.
@@ -162,15 +152,16 @@ fn given(present: bool, value: u16) -> Given
     }
 }
 
-fn with_given(item: Item, given: Given) -> Item
-    ensures { λ r. ⌜ r ≡ withGiven item given ⌝ }
+// An item with its transition's whole number, and with what it gives.
+fn with_end(item: Item, transition: u16, given: Given) -> Item
+    ensures { λ r. ⌜ r ≡ withEnd item transition given ⌝ }
 {
     let kind = item.kind;
     let place = item.place;
     Item {
         kind,
         rank: item.rank,
-        transition: item.transition,
+        transition,
         queue: item.queue,
         place,
         given,

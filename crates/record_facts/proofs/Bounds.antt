@@ -2,7 +2,7 @@
 -- each event, and ranks and cells are the program's. A pop's group is its command's, so the entries of every queue are of groups below that number.
 use Prim.Native.Nat.{ℕ, zero, suc, _+_, _<_, _≤_}
 use mathlib.Core.Path.{_≡_, refl, subst, ap}
-use mathlib.Core.Bool.{true, _&&_}
+use mathlib.Core.Bool.{true}
 use mathlib.Core.List.{List, [], _∷_}
 use mathlib.Core.Option.{Option, some, none, Option·none-ne-some, Option·some-injective}
 use native.Mathlib.Omega.{arith}
@@ -18,7 +18,7 @@ use Rattle.model.specs.Bytes.{Reader, word, judged, times}
 use Rattle.model.specs.ItemKinds.{hasPlace}
 use Rattle.model.specs.Programs.{Program, Command, Transition, HeaderFits, readProgram}
 use Rattle.model.specs.Records.{readItem, recordReaderIn, recordReader, readRecordIn, readRecord}
-use Rattle.model.specs.Machine.{Access, put₂, Action, loads, stores, assigns, passes, issues, meets}
+use Rattle.model.specs.Machine.{Access, Action, loads, stores, assigns, passes, issues, meets}
 use Rattle.model.specs.Machine.{Start, initial, moveTo, setRegister, setCell, setRequests, setDeliveries}
 use Rattle.model.specs.Replay.{Event, Replay, Taken, Replayed, joinsRow, openedAfter, originOf, accessOf, perform}
 use Rattle.model.specs.Replay.{takeItem, takeItems, sameAddress, agreesWith, begin, quiet, atEnd, replay}

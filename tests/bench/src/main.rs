@@ -1,7 +1,8 @@
 //! The times of check, listing and slip writer, proved and compiled, beside the second program's, on the same bytes.
 //!
-//! Prints two lines for each function and shape of records, the time of a call on run b, which is one small record, and whether the first program's
-//! time grows in step with the items. Ends with 1 if it does not, or if the two programs disagree on a record.
+//! Prints two lines for each function and shape of records, and for the check on programs with a record of no items; the time of a call on run b,
+//! which is one small record; and whether the first program's time grows in step with the items, or with the transitions. Ends with 1 if it does
+//! not, or if the two programs disagree on an input.
 
 mod first;
 mod mixed;
@@ -18,7 +19,9 @@ use std::time::Instant;
 
 /// The lengths of the records: the longest, and half of it.
 const LENGTHS: [usize; 2] = [512, 1024];
-/// How many times the cost of a record of 512 items one of 1,024 may have.
+/// The transitions of the programs that are read: the most, and half of it.
+const TRANSITIONS: [usize; 2] = [200, 400];
+/// How many times the cost of a record or program one of twice the length may have.
 const MOST_GROWTH: f64 = 2.2;
 /// Run b of document 01: the sample that `make sample` lists.
 const RUN_B: (&[u8], &[u8]) = (
@@ -44,7 +47,8 @@ first:  lellmusu_check, lellmusu_list and lellmusu_write_slip of the static libr
 second: tests/second. Its work for each group grows with the groups. Built for release, without the overflow checks that
         its own tests have.
 mixed:  one item in three is a transfer's command, of all ranks and queues, done at once or waiting in many ways.
-falling, rising, ring: two ranks; arrows that fall, none that fall, and a ring of all groups.";
+falling, rising, ring: two ranks; arrows that fall, none that fall, and a ring of all groups.
+program: so many transitions, each a write of constants, and a record of no items.";
 
 /// A shape of records: its name, its program, what a record of so many items does, and its verdict.
 struct Shape {
@@ -250,7 +254,7 @@ fn median(mut times: Vec<f64>) -> f64 {
     times[times.len() / 2]
 }
 
-/// Measures a function on the records of a shape, prints a line for each, and says whether the first program's time grows in step with the items.
+/// Measures a function on the records of a shape, and says whether the first program's time grows in step with the items.
 fn measured(work: &Work, shape: &Shape) -> Result<bool, String> {
     let mut inputs = LENGTHS.map(|items| Input::of(shape, items));
     for input in &mut inputs {
@@ -266,16 +270,47 @@ fn measured(work: &Work, shape: &Shape) -> Result<bool, String> {
     }
     let times = measure(work, &mut inputs, FIRST_CALLS, SECOND_CALLS);
     let name = format!("{:7} {:7}", work.name, shape.name);
-    for (items, Times { first, second }) in LENGTHS.into_iter().zip(&times) {
-        let each = 1e3 * first / items as f64;
+    Ok(in_step(&name, LENGTHS, &times))
+}
+
+/// Prints a line for each of two lengths, and says whether the first program's time grows in step with them.
+fn in_step(name: &str, lengths: [usize; 2], times: &[Times]) -> bool {
+    for (length, Times { first, second }) in lengths.into_iter().zip(times) {
+        let each = 1e3 * first / length as f64;
         let ratio = first / second;
-        println!("{name} {items:5} {first:9.2} {each:8.1} {second:10.1} {ratio:13.3}");
+        println!("{name} {length:5} {first:9.2} {each:8.1} {second:10.1} {ratio:13.3}");
     }
+    let [half, whole] = lengths;
     let growth = times[1].first / times[0].first;
     let linear = growth <= MOST_GROWTH;
     let verdict = if linear { "ok" } else { "TOO MUCH" };
-    println!("{name} 1,024 items cost {growth:.2} times what 512 cost; at most {MOST_GROWTH:.1} is allowed: {verdict}");
-    Ok(linear)
+    println!("{name} {whole} cost {growth:.2} times what {half} cost; at most {MOST_GROWTH:.1} is allowed: {verdict}");
+    linear
+}
+
+/// A program of so many transitions, more than 128: one cell, register, queue and state, and writes of cell 0 to cell 0 of rank 1.
+fn program_of(transitions: usize) -> Vec<u8> {
+    const WRITE: [u8; 16] = [30, 6, 0, 0, 0, 0, 0, 0, 0, 1, 0, 0, 0, 0, 0, 0];
+    let mut program = vec![1, 1, 1, 1, 1, 255];
+    program.extend((transitions as u16).to_be_bytes());
+    program.extend(WRITE.repeat(transitions));
+    program
+}
+
+/// Measures the check on programs with a record of no items.
+fn reading(work: &Work) -> Result<bool, String> {
+    let mut inputs = TRANSITIONS.map(|count| Input::new(program_of(count), vec![0, 0]));
+    for input in &mut inputs {
+        if input.agreed(work)? != first::ORDER {
+            return Err("a program that cannot be read".to_string());
+        }
+    }
+    let times = measure(work, &mut inputs, FIRST_CALLS, SECOND_CALLS);
+    Ok(in_step(
+        &format!("{:7} program", work.name),
+        TRANSITIONS,
+        &times,
+    ))
 }
 
 /// Measures a function on run b.
@@ -292,11 +327,11 @@ fn run_b(work: &Work) -> Result<(), String> {
     Ok(())
 }
 
-/// Measures all functions on all shapes and on run b.
+/// Measures all functions on all shapes and on run b, and the check on programs.
 fn bench() -> Result<bool, String> {
     println!("{MEASURED}");
     println!("Each time is the median of {BATCHES} batches, programs and lengths by turns, after a batch to warm up.");
-    println!("                items  first us  ns/item  second us  first/second");
+    println!("               length  first us  ns each  second us  first/second");
     let mut linear = true;
     for work in &WORKS {
         for shape in &SHAPES {
@@ -304,6 +339,7 @@ fn bench() -> Result<bool, String> {
         }
         run_b(work)?;
     }
+    linear &= reading(&WORKS[0])?;
     Ok(linear)
 }
 

@@ -11,8 +11,12 @@ use std::path::Path;
 use std::process::ExitCode;
 use theorems::Theorem;
 
-/// Longer cases are left out: the checker computes them slowly.
+/// Cases of so many bytes are computed whole, by every definition.
 const LONGEST: usize = 160;
+
+/// Of longer ones, which the checker computes slowly, the runs that are an order or a ring are computed by the check alone, up to so many bytes:
+/// programs of 400 short transitions among them.
+const LONGEST_RUN: usize = 1_700;
 
 /// Theorems to a file, so that none is long to check.
 const PER_FILE: usize = 40;
@@ -37,11 +41,15 @@ use Rattle.model.specs.Listings.{listingIn, listing}
 /// A theorem and the name of its case.
 type Named<'a> = (&'a str, Theorem);
 
-/// Whether a case is short enough to be computed.
-fn computed(case: &Case) -> bool {
-    match case {
-        Case::Slip(_) => true,
-        Case::Check(case) => case.program.len() + case.record.len() <= LONGEST,
+/// The theorems of a case, none if it is too long.
+fn theorems_of(case: &Case) -> Vec<Theorem> {
+    let Case::Check(check) = case else {
+        return theorems::of_case(case);
+    };
+    match check.program.len() + check.record.len() {
+        0..=LONGEST => theorems::of_case(case),
+        0..=LONGEST_RUN => theorems::of_run(check).into_iter().collect(),
+        _ => vec![],
     }
 }
 
@@ -111,13 +119,16 @@ fn write(repository: &Path, out: &Path, files: &[String]) -> Result<String, Stri
     for file in files {
         cases.extend(read_file(Path::new(file))?);
     }
-    let (computed, left): (Vec<Case>, Vec<Case>) = cases.into_iter().partition(computed);
-    let named = |case| {
-        theorems::of_case(case)
-            .into_iter()
-            .map(|theorem| (Case::name(case), theorem))
-    };
-    let theorems: Vec<Named> = computed.iter().flat_map(named).collect();
+    let computed: Vec<(&Case, Vec<Theorem>)> = cases
+        .iter()
+        .map(|case| (case, theorems_of(case)))
+        .filter(|(_, theorems)| !theorems.is_empty())
+        .collect();
+    let (count, left) = (computed.len(), cases.len() - computed.len());
+    let theorems: Vec<Named> = computed
+        .into_iter()
+        .flat_map(|(case, theorems)| theorems.into_iter().map(|theorem| (case.name(), theorem)))
+        .collect();
     copy_model(&repository.join("crates/model"), &out.join("crates/model"))?;
     let mut crates = String::from("model:\n");
     for (number, name) in CRATES.iter().enumerate() {
@@ -130,9 +141,9 @@ fn write(repository: &Path, out: &Path, files: &[String]) -> Result<String, Stri
         crates += &format!("{name}: model\n");
     }
     put(&out.join("crates.txt"), &crates)?;
-    let (count, cases, left) = (theorems.len(), computed.len(), left.len());
     Ok(format!(
-        "{count} theorems on {cases} cases; {left} cases of more than {LONGEST} bytes left out"
+        "{} theorems on {count} cases; {left} longer cases left out",
+        theorems.len()
     ))
 }
 

@@ -229,6 +229,14 @@ fn slip_read(case: &SlipCase) -> Theorem {
     )
 }
 
+/// The check on lists of entries, of a case that is an order or a ring.
+pub fn of_run(case: &CheckCase) -> Option<Theorem> {
+    match case.answer {
+        Expected::Refused(_) => None,
+        _ => checked(case).into_iter().next(),
+    }
+}
+
 /// The theorems of a case.
 pub fn of_case(case: &Case) -> Vec<Theorem> {
     match case {

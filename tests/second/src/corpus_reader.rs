@@ -2,7 +2,6 @@
 
 use crate::corpus::{Case, CheckCase, Expected, SlipCase};
 use crate::limits::Refusal;
-use crate::overtaken::follow;
 use std::collections::BTreeSet;
 use std::fs;
 use std::path::{Path, PathBuf};
@@ -190,17 +189,11 @@ fn slip_case(lines: &mut Lines) -> Result<SlipCase, String> {
     })
 }
 
-/// Reads one corpus file; a fault names the file. Cases that #107 has overtaken come with its
-/// answers.
+/// Reads one corpus file; a fault names the file.
 pub fn read_file(path: &Path) -> Result<Vec<Case>, String> {
     let named = |fault: String| format!("{}: {fault}", path.display());
     let text = fs::read_to_string(path).map_err(|error| named(error.to_string()))?;
-    let followed = |case| match case {
-        Case::Check(case) => Case::Check(follow(case)),
-        Case::Slip(case) => Case::Slip(case),
-    };
-    let cases = parse(&text).map_err(named)?;
-    Ok(cases.into_iter().map(followed).collect())
+    parse(&text).map_err(named)
 }
 
 /// The corpus files of a directory, those that end in `.txt`, by name.

@@ -22,7 +22,6 @@ pub mod limits;
 pub mod listing;
 pub mod machine;
 pub mod order;
-pub mod overtaken;
 pub mod program;
 pub mod record;
 pub mod replay;

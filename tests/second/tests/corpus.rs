@@ -6,7 +6,6 @@ use second::corpus_reader::{corpus_files, parse, read_file};
 use second::extras::{compare_extras, compare_slip_reader, Extras, Tally};
 use second::families;
 use second::harness::{between_guards, compare_case};
-use second::overtaken::OVERTAKEN;
 use std::collections::BTreeSet;
 use std::fs;
 use std::path::PathBuf;
@@ -54,23 +53,6 @@ fn the_made_files_are_current() {
             file.name
         );
     }
-}
-
-#[test]
-fn only_overtaken_cases_have_another_answer_than_their_files_say() {
-    let files = corpus_files(&directory()).expect("the corpus is there");
-    let mut differing = BTreeSet::new();
-    for file in files {
-        let text = fs::read_to_string(file).expect("the file can be read");
-        for case in parse(&text).expect("the file is well formed") {
-            if let Case::Check(case) = case {
-                let compared = compare_case(&between_guards(&check_bytes), &case);
-                differing.extend(compared.is_err().then_some(case.name));
-            }
-        }
-    }
-    let overtaken = OVERTAKEN.map(|(name, _)| name.to_string());
-    assert_eq!(differing, BTreeSet::from(overtaken));
 }
 
 #[test]

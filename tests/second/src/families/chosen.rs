@@ -9,7 +9,6 @@ use crate::judge::judge;
 use crate::limits::Refusal;
 use crate::machine::Start;
 use crate::order::Verdict;
-use crate::overtaken::{answered_before, dated};
 use crate::program::Kind;
 use crate::record::record_bytes;
 use std::collections::{BTreeMap, BTreeSet};
@@ -110,8 +109,20 @@ fn judged_case(
     )))
 }
 
-/// Refusals: for each number 1 to 15 some generated inputs at places as different as can be, all
-/// of them made and answered as before #107.
+/// The place of the count byte in a program's header.
+const COUNT_PLACE: usize = 5;
+
+/// The program with a count byte that is refused today as 255 was before #107.
+fn dated(program: &[u8]) -> Vec<u8> {
+    let mut dated = program.to_vec();
+    if let Some(count @ &mut 255) = dated.get_mut(COUNT_PLACE) {
+        *count = 254;
+    }
+    dated
+}
+
+/// Refusals: for each number 1 to 15 some generated inputs at places as different as can be. They
+/// are made, and chosen by their answers, as before #107, so that they are the same inputs still.
 pub fn refused_file(seed: u64) -> Result<Named, String> {
     let mut found: BTreeMap<u8, BTreeMap<usize, CheckCase>> = BTreeMap::new();
     for index in 0..PATIENCE {
@@ -132,7 +143,7 @@ pub fn refused_file(seed: u64) -> Result<Named, String> {
         if places.len() < PER_NUMBER && !places.contains_key(&place) {
             let name = format!("refused-{number}-{index}");
             let (program, record) = (input.program, input.record);
-            let case = answered_before(name, program, record, entries.0, entries.1);
+            let case = CheckCase::answered(name, program, record, entries.0, entries.1);
             places.insert(place, case);
         }
     }

@@ -16,7 +16,6 @@ use crate::judge::judge_order;
 use crate::limits::{MAX_CELLS, MAX_ITEMS, MAX_RANKS};
 use crate::machine::Start;
 use crate::order::Verdict;
-use crate::overtaken::answered_before;
 
 /// A corpus file: its name and its text.
 #[derive(Debug, Clone, PartialEq, Eq)]
@@ -51,10 +50,10 @@ pub fn files(seed: u64) -> Result<Vec<Named>, String> {
     ])
 }
 
-/// The file of the table's rows; a row that was answered otherwise before #107 is a fault.
+/// The file of the table's rows; a row that is answered otherwise is a fault.
 fn table_file() -> Result<Named, String> {
     let rows = table::rows().into_iter();
-    let cases: Result<Vec<Case>, String> = rows.map(|row| row.case(answered_before)).collect();
+    let cases: Result<Vec<Case>, String> = rows.map(row::Row::case).collect();
     let head = "# Every row of document 01's table; numbers and places worked out by hand.\n";
     Ok(Named::new("table.txt", head, &cases?))
 }

@@ -25,9 +25,6 @@ pub struct Row {
     pub cells: Vec<u16>,
 }
 
-/// A way to answer an input: its name, program, record and list lengths, as a case.
-pub type Answerer = fn(String, Vec<u8>, Vec<u8>, usize, usize) -> CheckCase;
-
 impl Row {
     /// A row of a family with a refusal and long enough lists.
     pub fn refused(
@@ -55,10 +52,10 @@ impl Row {
         self
     }
 
-    /// The row as a case; it is a fault if this way to answer gives something else.
-    pub fn case(self, answered: Answerer) -> Result<Case, String> {
+    /// The row as a case; it is a fault if the second program answers something else.
+    pub fn case(self) -> Result<Case, String> {
         let (order, cells) = (self.order_entries, self.cell_entries);
-        let case = answered(self.name, self.program, self.record, order, cells);
+        let case = CheckCase::answered(self.name, self.program, self.record, order, cells);
         let (answer, cells) = (self.answer, self.cells);
         if (&case.answer, &case.cells) == (&answer, &cells) {
             return Ok(Case::Check(case));

@@ -1,5 +1,4 @@
-//! Cases for every row of document 01's table, their numbers and places worked out by hand. They are
-//! document 01's alone: #107 answers the count byte of 255 otherwise, as `overtaken` says.
+//! Cases for every row of document 01's table, their numbers and places worked out by hand.
 
 use super::base::{join, one, program_with, record_of, record_with, BASE_PROGRAM, BASE_RECORD};
 use super::row::Row;
@@ -89,7 +88,6 @@ fn program_ranges() -> Vec<Row> {
         (4, 0),
         (4, 65),
         (5, 129),
-        (5, 255),
         (8, 3),
         (9, 3),
         (17, 3),
@@ -112,6 +110,8 @@ fn program_ranges() -> Vec<Row> {
         2,
         14,
     ));
+    // with #107 the two bytes behind a count byte of 255 are the count, here 1,538
+    rows.push(program_row("byte-255", program_with(&[(5, 255)]), 2, 6));
     rows.push(program_row("header-alone", vec![9], 2, 0));
     rows.push(program_row("header-start", vec![2, 65], 2, 1));
     rows

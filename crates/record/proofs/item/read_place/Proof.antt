@@ -33,7 +33,7 @@ both c =
     let rank = rw (atRank .before .bit .ensures) at (atRank .read-rank .ensures) in
     let cell = rw (atCell .before .bit2 .ensures) at (atCell .read-cell .ensures) in
     field-goes-on itemRead _ _ _ _ rank (atFirst .first .given .1)
-    (field-goes-on itemRead _ _ _ _ cell (atSecond .second .given .1) (c .read-given .ensures))
+    (field-goes-on itemRead _ _ _ _ cell (atSecond .second .given .1) (c .read-end .ensures))
 
 pub read-place-spec : {M : Type 1} → statement M
 read-place-spec =

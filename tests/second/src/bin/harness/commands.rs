@@ -17,11 +17,9 @@ use second::generator::{input, small_input, Input};
 use second::harness::{between_guards, compare, compare_case, Histogram};
 use second::judge::{judge, judge_order};
 use second::judged::{judge_observed, Verdicts};
-use second::limits::Refusal;
 use second::listing::listing_of_directory;
 use second::machine::Start;
 use second::order::Verdict;
-use second::overtaken::OVERTAKEN;
 use std::collections::BTreeSet;
 use std::fmt::Write;
 use std::fs;
@@ -66,11 +64,8 @@ pub fn corpus(tested: &Tested, directory: &str) -> Done {
         }
     }
     let Counts { histogram, tally } = counts;
-    let is_overtaken = |(name, _): &(&str, Refusal)| names.contains(*name);
-    let overtaken = OVERTAKEN.into_iter().filter(is_overtaken).count();
     Ok(format!(
-        "corpus: {} cases agree ({})\ncases answered as #107 says and not as their files: \
-         {overtaken}\nslip cases for the second program only, N above 255: \
+        "corpus: {} cases agree ({})\nslip cases for the second program only, N above 255: \
          {not_asked}\n{histogram}{tally}",
         names.len(),
         tested.name
