@@ -16,10 +16,11 @@ no-low-byte : tie.Need-returns-2
 unfolding readActor
 no-low-byte c =
     let atLow = c .before .before .before in
-    let atFirst = atLow .before .before .before .before in
+    let atBit = atLow .before .before in
+    let atFirst = atBit .before .before in
     let atRank = atFirst .before .before in
     let rank = rw (atRank .before .bit .ensures) at (atRank .read-rank .ensures) in
-    let low = rw (atLow .before .before .bit2 .ensures, atLow .before .bit3 .ensures) at (atLow .read-low-byte .ensures) in
+    let low = rw (atBit .bit2 .ensures, atLow .before .bit3 .ensures) at (atLow .read-low-byte .ensures) in
     field-goes-on itemRead _ _ _ _ rank (atFirst .first .given .1)
     (field-stops itemRead _ _ _ _ low (c .before .enum-told2 .given .1) (c .refusal2 .ensures))
 
@@ -28,10 +29,11 @@ unfolding readActor
 both c =
     let atSecond = c .before .before in
     let atLow = atSecond .before .before in
-    let atFirst = atLow .before .before .before .before in
+    let atBit = atLow .before .before in
+    let atFirst = atBit .before .before in
     let atRank = atFirst .before .before in
     let rank = rw (atRank .before .bit .ensures) at (atRank .read-rank .ensures) in
-    let low = rw (atLow .before .before .bit2 .ensures, atLow .before .bit3 .ensures) at (atLow .read-low-byte .ensures) in
+    let low = rw (atBit .bit2 .ensures, atLow .before .bit3 .ensures) at (atLow .read-low-byte .ensures) in
     field-goes-on itemRead _ _ _ _ rank (atFirst .first .given .1)
     (field-goes-on itemRead _ _ _ _ low (atSecond .second .given .1) (c .read-queue .ensures))
 
