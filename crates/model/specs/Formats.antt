@@ -1,6 +1,9 @@
--- The format of programs and records: what document 02's requests widen. Document 01's is one value of it and today's another, and each reader is
--- one definition over both. What the papers say of an item's maps stands first, as relations; then the maps as they are computed with. The two
--- agree (`original-maps` and `today-maps` in proofs/ItemForms.antt).
+-- The format of programs and records: what document 02's requests widen. Document 01's is one value of it and today's another, and each reader, and
+-- each answer that is made of what it reads, is one definition over both: its name ends in `In`, and the name without `In` is today's. What a wider
+-- format keeps is in proofs/Formats.antt.
+--
+-- What the papers say of an item's maps stands first, as relations; then the maps as they are computed with. The two agree (`original-maps` and
+-- `today-maps` in proofs/ItemForms.antt).
 use Prim.Native.Nat.{ℕ, _+_}
 use mathlib.Core.Path.{_≡_}
 use mathlib.Core.Bool.{true}

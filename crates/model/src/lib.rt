@@ -27,6 +27,11 @@ pub const STATES: usize = 64;
 
 pub const TRANSITIONS: usize = 400;
 
+// What a count of one byte says at most, and the count byte behind which a two-byte count follows.
+pub const SHORT_TRANSITIONS: u16 = 128;
+
+pub const LONG_COUNT: u16 = 255;
+
 // Where each transition of a program starts.
 pub type Starts = [usize; TRANSITIONS];
 

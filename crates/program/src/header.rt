@@ -5,10 +5,12 @@ use fields::read_word;
 use fields::within;
 use model::CELLS;
 use model::Header;
+use model::LONG_COUNT;
 use model::QUEUES;
 use model::RANKS;
 use model::REGISTERS;
 use model::Refusal;
+use model::SHORT_TRANSITIONS;
 use model::STATES;
 use model::TRANSITIONS;
 use model::refusals::PROGRAM_LENGTH;
@@ -21,13 +23,8 @@ ghost use Rattle.fields.specs.Fields.{fieldOf};
 ghost use Rattle.transitions.specs.Pairs.{inTurn, numbersRead};
 ghost use Rattle.program.specs.Headers.{headerRead, readControl};
 
-// What a count of one byte says at most.
-const SHORT_COUNT: u16 = 128;
-
-// The count byte behind which a two-byte count follows, and what that count says at least.
-const LONG_COUNT: u16 = 255;
-
-const LONG_LEAST: u16 = SHORT_COUNT + 1;
+// What a two-byte count says at least.
+const LONG_LEAST: u16 = SHORT_TRANSITIONS + 1;
 
 // A header and the place after it, or the refusal.
 pub enum HeaderRead {
@@ -80,7 +77,7 @@ fn transition_count(bytes: &[u8], at: usize) -> Field
             PROGRAM_RANGE,
         );
     }
-    within(read, at, 0, SHORT_COUNT, PROGRAM_RANGE)
+    within(read, at, 0, SHORT_TRANSITIONS, PROGRAM_RANGE)
 }
 
 // Behind the numbers of what a rank has: the states and the transitions, which end the header.
