@@ -6,6 +6,9 @@ pub mod Bytes
 pub mod Faults
 pub mod Standing
 pub mod Tables
+pub mod Places
+pub mod Allowances
+pub mod Extents
 pub mod ItemForms
 pub mod Formats
 pub mod OneForm

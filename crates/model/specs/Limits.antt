@@ -30,6 +30,13 @@ maxTransitions = 400
 abbrev pub longCount : ℕ
 longCount = 255
 
+-- The longest header, whose count has three bytes; and the longest transition, four bytes and four expressions of 31.
+abbrev pub maxHeaderBytes : ℕ
+maxHeaderBytes = 8
+
+abbrev pub maxTransitionBytes : ℕ
+maxTransitionBytes = 128
+
 -- "Expressions are tokens in prefix form, at most 15 each."
 abbrev pub maxTokens : ℕ
 maxTokens = 15

@@ -1,6 +1,6 @@
 -- The loop over the transitions. After i turns the first i entries are the first i starts, the others are still 0, and what is left to read is the
 -- other transitions from the present place on: so what is found in the end is those entries followed by the starts of the rest.
-use Prim.Native.Nat.{ℕ, suc, _+_, _-_, _≤_, _<_}
+use Prim.Native.Nat.{ℕ, suc, _+_, _-_, _*_, _≤_, _<_}
 use mathlib.Core.Path.{_≡_, refl, sym, _∙_}
 use mathlib.Core.List.{List, [], _∷_, _++_, append-assoc, append-nil}
 use native.Mathlib.Omega.{arith}
@@ -10,18 +10,19 @@ use lib.Seq.{drop-cons, drop-set-lt, take-suc-set, length-take-le}
 use borrow.Author.Tests.{eq-eqb, ne-eqb}
 use Rattle.model.specs.declared.Header.{Header}
 use Rattle.model.specs.declared.Refusal.{Refusal}
-use Rattle.model.specs.Limits.{maxTransitions}
+use Rattle.model.specs.Limits.{maxTransitionBytes, maxTransitions, wordValues}
 use Rattle.model.specs.Refusals as Refusals
 use Rattle.model.specs.Refusals.{Result, ok, refused, programLength}
 use Rattle.model.specs.Bytes.{Found, found, times}
 use Rattle.model.specs.Programs as Programs
 use Rattle.model.specs.Programs.{readTransition}
 use Rattle.model.proofs.Bytes.{times-more, times-none}
+use Rattle.model.proofs.Extents.{transition-takes}
 use Rattle.program.specs.declared.reader.ReadAnswer as ReadAnswer
 use Rattle.transitions.specs.declared.transition.Transition.{Transition}
 use Rattle.transitions.specs.declared.transition.TransitionRead as TransitionRead
 use Rattle.transitions.specs.declared.transition.TransitionRead.{TransitionRead}
-use Rattle.program.specs.Starts.{afterHeader, noStarts, padded, programRead, refusedProgram, startOf}
+use Rattle.program.specs.Starts.{Begun, afterHeader, noStarts, padded, programRead, refusedProgram, startOf}
 use Rattle.transitions.specs.Transitions.{transitionRead}
 use Rattle.transitions.proofs.Transitions.{transition-read, transition-refused}
 
@@ -55,16 +56,18 @@ filled starts i h d = rw (append-nil, length-take-le i starts h, ← d) (take-ap
 
 -- After i turns.
 pub record Passed (header : Header) (bytes : List ℕ) (at : ℕ) (starts : List ℕ) (place i : ℕ) : Type 0 where
-  pub limited : header .transitions ≤ maxTransitions
+  pub begun : Begun header at
+  pub near : place ≤ at + i * maxTransitionBytes
   pub within : i ≤ header .transitions
   pub sized : length starts ≡ maxTransitions
   pub unset : drop i starts ≡ replicate (maxTransitions - i) 0
   pub same : times (header .transitions) (startOf header) bytes at
       ≡ after (take i starts) (times (header .transitions - i) (startOf header) bytes place)
 
-pub passed-none : (header : Header) (bytes : List ℕ) (at : ℕ) → header .transitions ≤ maxTransitions → Passed header bytes at noStarts at 0
-passed-none header bytes at limit = record {
-  limited = limit;
+pub passed-none : (header : Header) (bytes : List ℕ) (at : ℕ) → Begun header at → Passed header bytes at noStarts at 0
+passed-none header bytes at begun = record {
+  begun = begun;
+  near = omega arith;
   within = omega arith;
   sized = refl;
   unset = refl;
@@ -74,6 +77,10 @@ passed-none header bytes at limit = record {
 }
 
 module _ {header : Header} {bytes : List ℕ} {at : ℕ} {starts : List ℕ} {place i : ℕ} (p : Passed header bytes at starts place i) where
+  -- A start fits sixteen bits.
+  pub fits : i < header .transitions → place < wordValues
+  fits h = omega (arith, p .near, p .begun .near, p .begun .few)
+
   -- What is left, one transition at a time.
   one-more : i < header .transitions →
       times (header .transitions) (startOf header) bytes at
@@ -101,7 +108,10 @@ module _ {header : Header} {bytes : List ℕ} {at : ℕ} {starts : List ℕ} {pl
     passed-more {t} {next} q =
         let s : i < length starts = omega (arith, p .sized) in
         record {
-          limited = p .limited;
+          begun = p .begun;
+          near =
+              let (u, m) = transition-read header rank registers (readTransition header bytes place) e q in
+              omega (arith, p .near, transition-takes header {from = 0} .spares bytes place _ m);
           within = omega arith;
           sized = length-set starts i place ∙ p .sized;
           unset = still-unset h;

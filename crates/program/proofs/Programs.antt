@@ -1,6 +1,6 @@
 -- The reader answers for the program that the definition reads: it is refused where the definition refuses, and its starts are where the definition's
 -- transitions stand.
-use Prim.Native.Nat.{ℕ, zero, suc, _<_, _≤_}
+use Prim.Native.Nat.{ℕ, zero, suc, _<_}
 use mathlib.Core.Path.{_≡_, refl, ap, sym, _∙_}
 use mathlib.Core.List.{List, [], _∷_}
 use mathlib.Core.Option.{some}
@@ -9,13 +9,13 @@ use lib.Dec.{eqb}
 use lib.ListN.{length, getD, getElem?, List·getD-append}
 use Rattle.model.specs.declared.Header.{Header}
 use Rattle.model.specs.declared.Refusal.{Refusal}
-use Rattle.model.specs.Limits.{maxTransitions}
 use Rattle.model.specs.Refusals as Refusals
 use Rattle.model.specs.Refusals.{Result, ok, refused}
 use Rattle.model.specs.Bytes.{Found, found, times}
 use Rattle.model.specs.Programs.{HeaderFits, Program, Transition, readHeader, readProgramIn, readProgram, readTransition}
 use Rattle.model.proofs.Laws.{bind-assoc, decided}
 use Rattle.model.proofs.Bytes.{times-more, times-none}
+use Rattle.model.proofs.Extents.{header-takes}
 use Rattle.model.proofs.Ranges.{header-finds}
 use Rattle.program.specs.declared.header.HeaderRead as HeaderRead
 use Rattle.program.specs.declared.header.HeaderRead.{HeaderRead}
@@ -25,6 +25,7 @@ use Rattle.program.specs.declared.reader.ProgramRead.{ProgramRead}
 use Rattle.program.specs.Headers.{headerRead}
 use Rattle.program.specs.Starts.{
   Answers,
+  Begun,
   Starts,
   afterHeader,
   entries,
@@ -231,8 +232,10 @@ module _ (bytes : List ℕ) {x : HeaderRead} (p : x ≡ headerRead (readHeader b
   no-header q e = promised (rw (e, header-refused (readHeader bytes 0) p q))
 
   module _ {header : Header} {next : ℕ} (q : x ≡ HeaderRead.the-variants.Read header next) where
-    pub few-transitions : header .transitions ≤ maxTransitions
-    few-transitions = header-finds .holds 0 _ (header-told (readHeader bytes 0) p q) .transitionsFit
+    pub begun : Begun header next
+    begun =
+        let read = header-told (readHeader bytes 0) p q in
+        record { few = header-finds .holds 0 _ read .transitionsFit; near = omega (arith, header-takes .spares bytes 0 _ read) }
 
     pub after-header : {y : ProgramRead} → y ≡ programRead (afterHeader header bytes next) → Answers bytes y
     after-header e = promised (rw (starts-after header bytes next (header-told (readHeader bytes 0) p q)) e)

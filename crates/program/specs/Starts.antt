@@ -1,12 +1,12 @@
 -- The program reader with the starts of the transitions in the place of the transitions: `programReader`, whose transitions give where they begin.
-use Prim.Native.Nat.{ℕ, _-_}
+use Prim.Native.Nat.{ℕ, _-_, _≤_}
 use mathlib.Core.Path.{_≡_}
 use mathlib.Core.List.{List, _++_}
 use lib.Dec.{eqb}
 use lib.ListN.{length, replicate}
 use Rattle.model.specs.declared.Header.{Header}
 use Rattle.model.specs.declared.Refusal.{Refusal}
-use Rattle.model.specs.Limits.{maxTransitions}
+use Rattle.model.specs.Limits.{maxHeaderBytes, maxTransitions}
 use Rattle.model.specs.Refusals as Refusals
 use Rattle.model.specs.Refusals.{Result, ok, refused, refuse, programLength}
 use Rattle.model.specs.Choice.{when}
@@ -49,6 +49,11 @@ reach bytes make m =
 unfoldable pub afterHeader : Header → (bytes : List ℕ) → (at : ℕ) → Result Starts
 afterHeader header bytes at =
     reach bytes (λ starts. record { header = header; starts = starts }) (times (header .transitions) (startOf header) bytes at)
+
+-- A header that was read, and the place behind it: so few transitions follow, from a place so near, that every start fits sixteen bits.
+pub record Begun (header : Header) (at : ℕ) : Type 0 where
+  pub few : header .transitions ≤ maxTransitions
+  pub near : at ≤ maxHeaderBytes
 
 -- Entries without a transition are 0.
 abbrev pub noStarts : List ℕ

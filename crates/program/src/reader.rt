@@ -10,9 +10,7 @@ use model::refusals::PROGRAM_LENGTH;
 use transitions::transition::TransitionRead;
 use transitions::transition::read_transition;
 ghost use mathlib.Core.Path.{_≡_};
-ghost use Prim.Native.Nat.{_≤_};
-ghost use Rattle.model.specs.Limits.{maxTransitions};
-ghost use Rattle.program.specs.Starts.{Answers, afterHeader, programRead, refusedProgram};
+ghost use Rattle.program.specs.Starts.{Answers, Begun, afterHeader, programRead, refusedProgram};
 
 // The header of a program that can be read, or the refusal.
 pub enum ReadAnswer {
@@ -38,7 +36,7 @@ fn refused(refusal: Refusal) -> ProgramRead
 
 // The header's transitions, one after the other from a place to the last byte. Their values are dropped: no register matters to where they end.
 fn read_transitions(bytes: &[u8], at: usize, header: Header) -> ProgramRead
-    requires { ⌜ header .transitions ≤ maxTransitions ⌝ }
+    requires { ⌜ Begun header at ⌝ }
     ensures { λ r. ⌜ r ≡ programRead (afterHeader header (now (bytes .entry)) at) ⌝ }
 {
     let mut starts = [0; TRANSITIONS];
@@ -55,7 +53,7 @@ fn read_transitions(bytes: &[u8], at: usize, header: Header) -> ProgramRead
                 transition: _,
                 next,
             } => {
-                starts[i] = place;
+                starts[i] = place as u16;
                 place = next;
                 i += 1;
             }

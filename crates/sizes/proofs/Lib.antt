@@ -2,7 +2,6 @@
 -- refusal is placed, what values an accepted run holds, how long lines are, and the whole text; and lists
 -- and slip memory that are enough for every answer.
 pub mod Places
-pub mod Allowances
 pub mod Starts
 pub mod Refusals
 pub mod Constants

@@ -1,16 +1,12 @@
--- Where a refusal is placed, by a rule for each way in which results are put together: what is refused by the whole is refused by a part. So the
--- replay places its refusals at an item, or behind the last one.
-use Prim.Native.Nat.{ℕ, _+_, _≤_}
-use mathlib.Core.Path.{_≡_, refl, sym}
-use mathlib.Core.Bool.{Bool, true, false, _&&_}
+-- The replay places its refusals at an item, or behind the last one.
+use Prim.Native.Nat.{ℕ, _+_}
+use mathlib.Core.Bool.{Bool, _&&_}
 use mathlib.Core.List.{List, [], _∷_}
 use mathlib.Core.Option.{Option, some, none}
 use native.Mathlib.Omega.{arith}
 use lib.Dec.{ltb, eqb}
 use lib.ListN.{length, getElem?}
 use Rattle.model.specs.declared.Item.{Item}
-use Rattle.model.specs.declared.Refusal.{Refusal}
-use Rattle.model.specs.Refusals.{Result, ok, refused, refuse, require, _>>=_}
 use Rattle.model.specs.Refusals.{wrongTransition, operandRange, assumeFails, emptyQueue, accessDiffers, barrierRow, queuesLeft}
 use Rattle.model.specs.Choice.{between}
 use Rattle.model.specs.ItemKinds.{sameKind, Part, command, fetch, delivery, partOf}
@@ -19,29 +15,7 @@ use Rattle.model.specs.Programs.{Program, Transition, Command, load, store, ass
 use Rattle.model.specs.Machine.{Start, Request, Delivery, valueOf, operand, cellOperand, transfer, action}
 use Rattle.model.specs.Replay.{Origin, Replay, Taken, rowAllows, agreesWith, agreed, takeTransition, takeFetch, takeDelivery, takePart, takeItem}
 use Rattle.model.specs.Replay.{afterCommand, afterFetch, afterDelivery, oldest, takeItems, begin, quiet, atEnd, replay}
-use Rattle.model.proofs.Laws.{refused≢ok}
-
--- What this result refuses is placed here or before.
-pub record Placed {A : Type 0} (most : ℕ) (m : Result A) : Type 0 where
-  pub place : (r : Refusal) → m ≡ refused r → r .place ≤ most
-
-pub placed-ok : {A : Type 0} {most : ℕ} (a : A) → Placed most (ok a)
-placed-ok a = record { place = λ r h. absurd (refused≢ok (sym h)) }
-
-pub placed-refuse : {A : Type 0} {most : ℕ} (number place : ℕ) → place ≤ most → Placed {A = A} most (refuse number place)
-placed-refuse number place before = record { place = λ r h. let same : place ≡ r .place = cc in rw same at before }
-
-pub placed-bind : {A B : Type 0} {most : ℕ} {m : Result A} {f : A → Result B} → Placed most m → ((a : A) → m ≡ ok a → Placed most (f a)) →
-    Placed most (m >>= f)
-placed-bind {m = ok a} first then = then a refl
-placed-bind {m = refused r} first then = record { place = λ s h. let same : r ≡ s = cc in rw same at (first .place r refl) }
-
-pub placed-later : {A : Type 0} {most later : ℕ} {m : Result A} → most ≤ later → Placed most m → Placed later m
-placed-later after placed = record { place = λ r h. omega (arith, placed .place r h) }
-
-placed-require : (t : Bool) (number place : ℕ) → Placed place (require t number place)
-placed-require true number place = placed-ok tt
-placed-require false number place = placed-refuse number place (omega arith)
+use Rattle.model.proofs.Places.{Placed, placed-ok, placed-refuse, placed-bind, placed-later, placed-require}
 
 -- An item is refused at its number.
 module _ (P : Program) (at : ℕ) where

@@ -15,8 +15,9 @@ use Rattle.model.proofs.Laws.{between-true}
 use Rattle.record_facts.proofs.Bounds.{read-few}
 use Rattle.demands.proofs.Refusals.{check-tabled}
 use Rattle.sizes.specs.Sizes.{maxProgramBytes, maxRecordBytes}
-use Rattle.sizes.proofs.Places.{Placed, placed-ok, placed-bind, placed-later, replay-placed}
-use Rattle.sizes.proofs.Allowances.{whole-placed}
+use Rattle.model.proofs.Places.{Placed, placed-ok, placed-bind, placed-later}
+use Rattle.model.proofs.Allowances.{whole-placed}
+use Rattle.sizes.proofs.Places.{replay-placed}
 use Rattle.sizes.proofs.Starts.{program-takes, record-takes}
 
 -- A refusal as a program and a record can have it.

@@ -19,8 +19,16 @@ use pops::take_delivery;
 use pops::take_fetch;
 use queues::Ends;
 use queues::Pool;
+ghost use mathlib.Core.Path.{_≡_};
 ghost use Rattle.machine.specs.Arrays.{memory};
 ghost use Rattle.step.specs.Standing.{Steps};
+
+// A start as a place.
+fn place_of(start: u16) -> usize
+    ensures { λ r. ⌜ r ≡ start ⌝ }
+{
+    start as usize
+}
 
 // The next item of a record, which the replay takes or refuses.
 pub fn take_item(
@@ -61,7 +69,7 @@ pub fn take_item(
             place: at,
         });
     }
-    let start = starts[transition];
+    let start = place_of(starts[transition]);
     take_command(
         program,
         start,

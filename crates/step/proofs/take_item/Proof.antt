@@ -53,12 +53,12 @@ returns-5 : tie.Need-returns-5
 returns-5 c =
     let atArgs = c .before .before .before in
     let atStart = atArgs .before .before .before in
-    let atElse4 = atStart .before in
+    let atElse4 = atStart .before .before in
     let atElse3 = atElse4 .before in
     let atElse2 = atElse3 .before .before in
     let atElse1 = atElse2 .before .before in
     promised _ _ _ _ _ (item-command _ _ _ _ _ _ (atElse1 .before .row-allows .ensures) (not-false _ (atElse1 .if1 .left))
-    (no-fetch atElse2) (no-delivery atElse3) (atElse4 .if4 .left) (c .take-command .ensures))
+    (no-fetch atElse2) (no-delivery atElse3) (atElse4 .if4 .left) (rw (atStart .place-of .ensures) at (c .take-command .ensures)))
 
 pub take-item-spec : {M : Type 1} → statement M
 take-item-spec =
@@ -76,5 +76,6 @@ take-item-spec =
     returns-4
     (λ c. search needs)
     (λ c. search needs)
+    (λ c κs. search needs)
     (λ c κs. search needs)
     returns-5)

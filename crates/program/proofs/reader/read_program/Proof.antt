@@ -1,13 +1,13 @@
 -- `read_program`: the header, and what follows it; by the laws of `Programs` that is the definition's own reader. Assumes nothing.
 use borrow.Author.Needs.{needs}
-use Rattle.program.proofs.Programs.{no-header, few-transitions, after-header}
+use Rattle.program.proofs.Programs.{no-header, begun, after-header}
 use Rattle.program.proofs.reader.read_program.Statement.{statement}
 use Rattle.program.proofs.reader.read_program.Tie as tie
 
 read-transitions-requires : tie.Need-read-transitions-requires
 read-transitions-requires c κs =
     let read = c .before in
-    few-transitions _ (read .before .before .read-header .ensures) (read .read2 .given .1)
+    begun _ (read .before .before .read-header .ensures) (read .read2 .given .1)
 
 returns : tie.Need-returns
 returns c =

@@ -1,9 +1,10 @@
 -- `read_transitions`: the loop keeps `Passed`, and the transitions left fall with each turn. Assumes nothing.
 use Prim.Native.Nat.{_-_}
+use native.Mathlib.Omega.{arith}
 use lib.ListN.{replicate}
 use borrow.Author.Needs.{needs}
 use Rattle.model.specs.Limits.{maxRegisters}
-use Rattle.program.proofs.Loops.{Passed, passed-none, passed-more, passed-refused, left-over, all-read}
+use Rattle.program.proofs.Loops.{Passed, fits, passed-none, passed-more, passed-refused, left-over, all-read}
 use Rattle.program.proofs.reader.read_transitions.Statement.{statement}
 use Rattle.program.proofs.reader.read_transitions.Tie as tie
 
@@ -20,6 +21,12 @@ returns c =
     rw (c .refused .ensures)
     (passed-refused (turn .before .loop .inv) (turn .loop-test .taken) 0 (replicate maxRegisters 0)
     (read .before .before .read-transition .ensures) (read .read .given .1))
+
+cast-starts : tie.Need-cast-starts Inv-loop μ-loop
+cast-starts c =
+    let read = c .before in
+    let turn = read .before .before .before in
+    omega (arith, fits (turn .before .loop .inv) (turn .loop-test .taken))
 
 loop-again : tie.Need-loop-again Inv-loop μ-loop
 loop-again c =
@@ -51,6 +58,7 @@ read-transitions-spec =
     (λ c κs. search needs)
     returns
     (λ c. search needs)
+    cast-starts
     (λ c. search needs)
     (λ c. search needs)
     (λ c. search needs)

@@ -9,13 +9,13 @@ use lib.Dec.{ltb, leb, eqb}
 use lib.ListN.{length, take}
 use lib.Seq.{length-take-le, take-all, getD-take}
 use borrow.Author.Tests.{lt-ltb, ltb-false, ne-eqb, leb-true, leb-false}
 use Rattle.model.specs.Refusals as Refusals
 use Rattle.model.specs.Refusals.{ok, refuse}
 use Rattle.model.specs.Choice.{when}
 use Rattle.model.specs.Bytes.{Found, Reader, _>>=_, pure, here, fault, byte, word, judged, optional, times, whole}
 use Rattle.model.proofs.Laws.{refused≢ok, ok-injective, bind-ok, bind-cong, when-false, decided}
 use Rattle.model.proofs.Bytes.{byte-next, word-is, judged-ok}
-use Rattle.sizes.proofs.Places.{Placed, placed-ok, placed-refuse, placed-bind, placed-later}
+use Rattle.model.proofs.Places.{Placed, placed-ok, placed-refuse, placed-bind, placed-later}
 
 -- Where the bytes allowed are all before the cut, what lies behind it makes no difference; reading goes onward, and what is not taken of them is at
 -- least what is spared; and a reader that starts at `from` or behind it places its faults no further than they reach.
