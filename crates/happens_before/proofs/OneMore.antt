@@ -1,5 +1,5 @@
 -- What is kept stands for the items so far, and once an item is kept for one item more. An access joins its cell's list, which a write begins anew.
-use Prim.Native.Nat.{ℕ, suc, _+_, _-_, _<_}
+use Prim.Native.Nat.{ℕ, suc, _+_, _-_, _≤_, _<_}
 use mathlib.Core.Path.{_≡_, refl, sym, ap, _∙_}
 use mathlib.Core.Bool.{Bool, true, false, _&&_}
 use mathlib.Core.List.{List, [], _∷_}
@@ -15,9 +15,9 @@ use Rattle.memory.specs.Tables.{Table}
 use Rattle.chains.specs.Chains.{room, headsAfter, linksAfter, Listed}
 use Rattle.chains.proofs.Chains.{exchanged, listed-later, clear-listed, push-listed}
 use Rattle.happens_before.specs.declared.rows.Told.{Told}
-use Rattle.happens_before.specs.Told.{maxAddresses, toldAt}
+use Rattle.happens_before.specs.Told.{toldAt}
 use Rattle.happens_before.specs.Drawing.{Kept, commandsWith, ifWrites, keptAfter}
-use Rattle.happens_before.proofs.Tests.{rank-within, address-within}
+use Rattle.happens_before.proofs.Tests.{rank-within}
 use Rattle.happens_before.proofs.Cases.{commands-none, commands-some, writes-set, writes-same, accessed-none, accessed-some}
 use Rattle.happens_before.proofs.Lasts.{Lasts, lasts-same, lasts-set}
 use Rattle.happens_before.proofs.Standing.{Stands, ofRank, touches, writing, overwriting}
@@ -43,7 +43,8 @@ module _ (heads links : List ℕ) (key member : ℕ) where
       decided (room heads links key member) (λ t. rw t (length-set links (member - 1) (getD heads key 0))) (λ t. rw t)
 
 -- An item more.
-module _ (trail : Table) (item : ℕ) (within : item < maxItems) (k : Kept) (stands : Stands trail item k) where
+module _ {cells : ℕ} (trail : Table) (item : ℕ) (within : item < maxItems) (inside : toldAt trail item .address ≤ cells) (k : Kept)
+    (stands : Stands cells trail item k) where
   abbrev t : Told
   t = toldAt trail item
 
@@ -66,7 +67,7 @@ module _ (trail : Table) (item : ℕ) (within : item < maxItems) (k : Kept) (sta
     not-touching : (c : ℕ) → touches trail (suc c) item ≡ false
     not-touching c = ne-eqb (t .address) (suc c) (λ e. omega (arith, e, untouched))
 
-    stands-untouched : Stands trail (suc item) (keptAfter trail item k)
+    stands-untouched : Stands cells trail (suc item) (keptAfter trail item k)
     unfolding since
     stands-untouched =
         rw (accessed-none t (item + 1) (k .accesses) untouched)
@@ -82,8 +83,8 @@ module _ (trail : Table) (item : ℕ) (within : item < maxItems) (k : Kept) (sta
     abbrev slot : ℕ
     slot = t .address - 1
 
-    slot-inside : slot < maxAddresses
-    slot-inside = omega (arith, touched, address-within trail item)
+    slot-inside : slot < cells
+    slot-inside = omega (arith, touched, inside)
 
     own-cell : (c : ℕ) → c ≡ slot → touches trail (suc c) item ≡ true
     own-cell c e = eq-eqb (t .address) (suc c) (omega (arith, e, touched))
@@ -91,7 +92,7 @@ module _ (trail : Table) (item : ℕ) (within : item < maxItems) (k : Kept) (sta
     other-cell : (c : ℕ) → ¬ (c ≡ slot) → touches trail (suc c) item ≡ false
     other-cell c n = ne-eqb (t .address) (suc c) (λ e. omega (arith, e, n))
 
-    writes-next : Lasts (ifWrites (k .accesses .writes) t (item + 1)) maxAddresses (λ c. overwriting trail (suc c)) (suc item)
+    writes-next : Lasts (ifWrites (k .accesses .writes) t (item + 1)) cells (λ c. overwriting trail (suc c)) (suc item)
     writes-next =
         decided (t .writes)
         (λ w.
@@ -116,7 +117,7 @@ module _ (trail : Table) (item : ℕ) (within : item < maxItems) (k : Kept) (sta
     abbrev heads : List ℕ
     heads = ifWrites (k .accesses .newest) t 0
 
-    heads-long : length heads ≡ maxAddresses
+    heads-long : length heads ≡ cells
     heads-long =
         decided (t .writes)
         (λ w. rw (writes-set t 0 (k .accesses .newest) w) (length-set (k .accesses .newest) slot 0 ∙ stands .newest-long))
@@ -149,7 +150,7 @@ module _ (trail : Table) (item : ℕ) (within : item < maxItems) (k : Kept) (sta
         rw (add-one item)
         (listed-same joined (push-listed heads-listed slot (rw heads-long slot-inside) (rw (stands .links-long) within)))
 
-    stands-touched : Stands trail (suc item) (keptAfter trail item k)
+    stands-touched : Stands cells trail (suc item) (keptAfter trail item k)
     stands-touched =
         rw (accessed-some t (item + 1) (k .accesses) touched)
         (record {
@@ -160,7 +161,7 @@ module _ (trail : Table) (item : ℕ) (within : item < maxItems) (k : Kept) (sta
           accesses = accesses-next;
         })
 
-  pub stands-next : Stands trail (suc item) (keptAfter trail item k)
+  pub stands-next : Stands cells trail (suc item) (keptAfter trail item k)
   stands-next =
       decided (eqb (t .address) 0)
       (λ e. stands-untouched (eqb-true (t .address) 0 e))

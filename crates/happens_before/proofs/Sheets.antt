@@ -11,7 +11,7 @@ use Rattle.model.specs.Checks.{fill}
 use Rattle.memory.specs.Tables.{Table, zeros}
 use Rattle.memory.proofs.Filled.{fill-more}
 use Rattle.graph.specs.Edges.{edgesSize, edgeRow, edgeTable}
-use Rattle.happens_before.specs.Drawn.{Drawn, drawn, drawnAs}
+use Rattle.happens_before.specs.Drawn.{Drawn, drawn, noneDrawn, drawnAs}
 use Rattle.happens_before.specs.Drawing.{oneMore, added}
 
 pub added-append : (first then : List Edge) (d : Drawn) → added (first ++ then) d ≡ added then (added first d)
@@ -47,5 +47,6 @@ added-after before (e ∷ edges) room =
     ∙ added-after (before ++ e ∷ []) edges (omega (arith, longer))
     ∙ ap drawnAs (append-assoc before (e ∷ []) edges)
 
-pub added-all : (edges : List Edge) → length edges ≤ maxEdges → added edges (drawnAs []) ≡ drawnAs edges
+pub added-all : (edges : List Edge) → length edges ≤ maxEdges → added edges noneDrawn ≡ drawnAs edges
+unfolding fill
 added-all edges room = added-after [] edges (omega arith)

@@ -1,6 +1,6 @@
 -- What is kept stands for the items so far: each rank's last command, each cell's last write, and its accesses since. The arrows that it gives into
 -- the next item are the model's.
-use Prim.Native.Nat.{ℕ, suc, _+_, _-_, _<_}
+use Prim.Native.Nat.{ℕ, suc, _+_, _-_, _≤_, _<_}
 use mathlib.Core.Path.{_≡_, refl, sym, ap, _∙_}
 use mathlib.Core.Bool.{Bool, true, false, _&&_, _||_}
 use mathlib.Core.List.{_++_}
@@ -16,7 +16,7 @@ use Rattle.memory.specs.Tables.{Table}
 use Rattle.chains.specs.Chains.{Listed}
 use Rattle.chains.proofs.Chains.{empty-listed}
 use Rattle.happens_before.specs.declared.rows.Told.{Told}
-use Rattle.happens_before.specs.Told.{maxAddresses, toldAt, eventTold}
+use Rattle.happens_before.specs.Told.{toldAt, eventTold}
 use Rattle.happens_before.specs.Drawing.{Kept, keptNone, fromName, fromEach, programInto, conflictsInto, edgesInto}
 use Rattle.happens_before.proofs.Tests.{
   rank-same,
@@ -26,7 +26,6 @@ use Rattle.happens_before.proofs.Tests.{
   untouched-conflict,
   untouched-overwrite,
   rank-within,
-  address-within,
 }
 use Rattle.happens_before.proofs.Cases.{program-none, program-some, conflicts-none, conflicts-write, conflicts-read}
 use Rattle.happens_before.proofs.Lasts.{Lasts, lasts-none}
@@ -66,22 +65,22 @@ module _ (trail : Table) where
   overwriting cell item = touches cell item && writing item
 
 -- Of the first items, each rank's last command, each cell's last write, and its accesses since.
-pub record Stands (trail : Table) (items : ℕ) (k : Kept) : Type 0 where
+pub record Stands (cells : ℕ) (trail : Table) (items : ℕ) (k : Kept) : Type 0 where
   pub commands : Lasts (k .commands) maxRanks (λ r. ofRank trail (suc r)) items
-  pub writes : Lasts (k .accesses .writes) maxAddresses (λ c. overwriting trail (suc c)) items
-  pub newest-long : length (k .accesses .newest) ≡ maxAddresses
+  pub writes : Lasts (k .accesses .writes) cells (λ c. overwriting trail (suc c)) items
+  pub newest-long : length (k .accesses .newest) ≡ cells
   pub links-long : length (k .accesses .links) ≡ maxItems
   pub accesses : Listed (k .accesses .newest) (k .accesses .links) items (λ c. since (touches trail (suc c)) (writing trail) items)
 
-pub stands-none : (trail : Table) → Stands trail 0 keptNone
+pub stands-none : (cells : ℕ) (trail : Table) → Stands cells trail 0 (keptNone cells)
 unfolding since
-stands-none trail =
+stands-none cells trail =
     record {
       commands = lasts-none maxRanks (λ r. ofRank trail (suc r));
-      writes = lasts-none maxAddresses (λ c. overwriting trail (suc c));
-      newest-long = length-replicate {A = ℕ} maxAddresses 0;
+      writes = lasts-none cells (λ c. overwriting trail (suc c));
+      newest-long = length-replicate {A = ℕ} cells 0;
       links-long = length-replicate {A = ℕ} maxItems 0;
-      accesses = empty-listed maxAddresses (replicate maxItems 0);
+      accesses = empty-listed cells (replicate maxItems 0);
     }
 
 -- The group of an event that a row tells of.
@@ -90,7 +89,8 @@ unfolding eventTold
 group-told t = refl
 
 -- The arrows into an item.
-module _ (trail : Table) (item : ℕ) (within : item < maxItems) (k : Kept) (stands : Stands trail item k) where
+module _ {cells : ℕ} (trail : Table) (item : ℕ) (within : item < maxItems) (inside : toldAt trail item .address ≤ cells) (k : Kept)
+    (stands : Stands cells trail item k) where
   abbrev t : Told
   t = toldAt trail item
 
@@ -117,8 +117,8 @@ module _ (trail : Table) (item : ℕ) (within : item < maxItems) (k : Kept) (sta
     one-less : suc (t .address - 1) ≡ t .address
     one-less = omega (arith, touched)
 
-    slot-within : t .address - 1 < maxAddresses
-    slot-within = omega (arith, touched, address-within trail item)
+    slot-within : t .address - 1 < cells
+    slot-within = omega (arith, touched, inside)
 
     -- A read finds the last write, and a write each access since.
     read-into : t .writes ≡ false → conflictsInto trail (k .accesses) t ≡ conflictEdges y (before trail item)

@@ -1,10 +1,10 @@
 -- The drawing of arrows on arrays: what is kept of the items so far, and the arrows into the next one that it gives. An item is named by its number
 -- plus 1, and 0 names none, so that cleared arrays have nothing in them. Nothing is asked of the arrays.
-use Prim.Native.Nat.{ℕ, zero, suc, _+_, _-_}
+use Prim.Native.Nat.{ℕ, zero, suc, _+_, _-_, _≤_, _<_}
 use mathlib.Core.Path.{_≡_}
 use mathlib.Core.List.{List, [], _∷_, _++_}
 use lib.Dec.{ltb, eqb}
-use lib.ListN.{getD, set, replicate}
+use lib.ListN.{length, getD, set, replicate}
 use Rattle.model.specs.Limits.{maxRanks, maxItems, maxEdges}
 use Rattle.model.specs.Choice.{when}
 use Rattle.model.specs.HappensBefore.{Edge}
@@ -12,7 +12,7 @@ use Rattle.memory.specs.Tables.{Table}
 use Rattle.chains.specs.Chains.{headsAfter, linksAfter, members}
 use Rattle.graph.specs.Edges.{edgeRow}
 use Rattle.happens_before.specs.declared.rows.Told.{Told}
-use Rattle.happens_before.specs.Told.{maxAddresses, toldAt}
+use Rattle.happens_before.specs.Told.{toldAt}
 use Rattle.happens_before.specs.Drawn.{Drawn, drawn}
 
 -- By cell: its last write, the newest access, and what links it to a list of the accesses since that write, itself included, the newest first.
@@ -32,8 +32,19 @@ pub record Kept : Type 0 where
 abbrev pub kept : (commands : List ℕ) → Accessed → Kept
 kept commands accesses = record { commands = commands; accesses = accesses }
 
-abbrev pub keptNone : Kept
-keptNone = kept (replicate maxRanks 0) (accessed (replicate maxAddresses 0) (replicate maxAddresses 0) (replicate maxItems 0))
+-- Nothing is kept, in tables with entries for so many cells.
+abbrev pub keptNone : (cells : ℕ) → Kept
+keptNone cells = kept (replicate maxRanks 0) (accessed (replicate cells 0) (replicate cells 0) (replicate maxItems 0))
+
+-- The first items access these cells alone; and tables that have entries for them are cleared.
+pub record Inside (cells : ℕ) (trail : Table) (last : ℕ) : Type 0 where
+  pub within : (item : ℕ) → item < last → toldAt trail item .address ≤ cells
+
+pub record Cleared (trail : Table) (last : ℕ) (writes newest : List ℕ) : Type 0 where
+  pub few : last ≤ maxItems
+  pub inside : Inside (length writes) trail last
+  pub no-writes : writes ≡ replicate (length writes) 0
+  pub none-newest : newest ≡ replicate (length writes) 0
 
 -- An arrow more, where there is room for it; and several.
 unfoldable pub oneMore : Edge → Drawn → Drawn

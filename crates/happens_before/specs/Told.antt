@@ -19,6 +19,10 @@ use Rattle.happens_before.specs.declared.rows.Told.{Told}
 abbrev pub maxAddresses : ℕ
 maxAddresses = maxRanks * maxCells
 
+-- As many as two ranks have: a small run has tables for these alone.
+abbrev pub fewAddresses : ℕ
+fewAddresses = 2 * maxCells
+
 -- A number that is in its range, and else 0.
 abbrev pub atMost : (limit number : ℕ) → ℕ
 atMost limit number = when (leb number limit) (λ _. number) (λ _. 0)

@@ -9,20 +9,21 @@ use crate::arrows::draw_program;
 use crate::keeping::keep_access;
 use crate::keeping::keep_command;
 use crate::rows::ADDRESSES;
+use crate::rows::FEW_ADDRESSES;
+use crate::rows::FEW_ITEMS;
 use crate::rows::told_at;
-use graph::EDGES;
-use graph::ENDPOINTS;
 use graph::Edges;
 use model::ITEMS;
 use model::RANKS;
 use model::Trail;
 ghost use mathlib.Core.Path.{_≡_};
-ghost use Prim.Native.Nat.{_<_, min};
+ghost use mathlib.Core.Bool.{true};
+ghost use Prim.Native.Nat.{_≤_, _<_, min};
 ghost use Rattle.model.specs.Limits.{maxItems};
 ghost use Rattle.model.specs.HappensBefore.{edgesOf};
-ghost use Rattle.happens_before.specs.Told.{eventsTold};
-ghost use Rattle.happens_before.specs.Drawn.{drawn, drawnAs};
-ghost use Rattle.happens_before.specs.Drawing.{accessed, kept, Draws};
+ghost use Rattle.happens_before.specs.Told.{fewAddresses, eventsTold};
+ghost use Rattle.happens_before.specs.Drawn.{drawn};
+ghost use Rattle.happens_before.specs.Drawing.{accessed, added, kept, Inside, Cleared, Draws};
 
 // One item: the arrows into it by program order, then those by conflict, the nearest first; and it is kept. Answers how many arrows there are then.
 fn draw_item(
@@ -60,26 +61,29 @@ fn rows_told(items: usize) -> usize
     ITEMS
 }
 
-// The arrows between the groups of the first `items` rows of a trail, in the order in which they are met; the other rows are 0 then. Answers how many
-// arrows there are.
-pub fn edges_of(trail: &Trail, items: usize, edges: &mut Edges) -> usize
-    ensures { λ r. ⌜ drawn r (now (edges .exit)) ≡ drawnAs (edgesOf (eventsTold items (now (trail .entry)))) ⌝ }
+// The arrows into each of the first items, with cleared tables that have an entry for each cell that these access. Answers how many there are.
+fn draw_items(
+    trail: &Trail,
+    last: usize,
+    writes: &mut [u16],
+    newest: &mut [u16],
+    edges: &mut Edges,
+) -> usize
+    requires { ⌜ Cleared (now trail) last (now writes) (now newest) ⌝ }
+    ensures { λ r. ⌜ drawn r (now (edges .exit)) ≡
+        added (edgesOf (eventsTold last (now (trail .entry)))) (drawn 0 (now (edges .entry))) ⌝ }
 {
     let mut commands = [0; RANKS];
-    let mut writes = [0; ADDRESSES];
-    let mut newest = [0; ADDRESSES];
     let mut links = [0; ITEMS];
-    *edges = [[0; ENDPOINTS]; EDGES];
     let mut count = 0;
     let mut item = 0;
-    let last = rows_told(items);
     while item < last {
         count = draw_item(
             trail,
             item,
             &mut commands,
-            &mut writes,
-            &mut newest,
+            writes,
+            newest,
             &mut links,
             edges,
             count,
@@ -87,4 +91,41 @@ pub fn edges_of(trail: &Trail, items: usize, edges: &mut Edges) -> usize
         item += 1;
     }
     count
+}
+
+// Whether a run is small: so few items that looking at each costs less than clearing tables for all cells, none of which accesses a cell beyond two
+// ranks'. A small run's tables have entries for those cells alone, so that it does not pay for ranks that it does not have.
+fn is_small(trail: &Trail, last: usize) -> bool
+    requires { ⌜ last ≤ maxItems ⌝ }
+    ensures { λ r. ⌜ (r ≡ true → Inside fewAddresses (now (trail .entry)) last) ⌝ }
+{
+    if FEW_ITEMS < last {
+        return false;
+    }
+    let mut item = 0;
+    while item < last {
+        let told = told_at(trail, item);
+        if FEW_ADDRESSES < told.address {
+            return false;
+        }
+        item += 1;
+    }
+    true
+}
+
+// The arrows between the groups of the first `items` rows of a trail, in the order in which they are met, drawn in the table's first rows; the other
+// rows hold what they held. Answers how many arrows there are.
+pub fn edges_of(trail: &Trail, items: usize, edges: &mut Edges) -> usize
+    ensures { λ r. ⌜ drawn r (now (edges .exit)) ≡
+        added (edgesOf (eventsTold items (now (trail .entry)))) (drawn 0 (now (edges .entry))) ⌝ }
+{
+    let last = rows_told(items);
+    if is_small(trail, last) {
+        let mut writes = [0; FEW_ADDRESSES];
+        let mut newest = [0; FEW_ADDRESSES];
+        return draw_items(trail, last, &mut writes, &mut newest, edges);
+    }
+    let mut writes = [0; ADDRESSES];
+    let mut newest = [0; ADDRESSES];
+    draw_items(trail, last, &mut writes, &mut newest, edges)
 }

@@ -13,6 +13,11 @@ ghost use Rattle.happens_before.specs.Drawing.{groupAt};
 // How many cells there are, all ranks together.
 pub const ADDRESSES: usize = RANKS * CELLS;
 
+// A small run: as many items at most, and as many cells as two ranks have.
+pub const FEW_ITEMS: usize = 64;
+
+pub const FEW_ADDRESSES: usize = 2 * CELLS;
+
 // An item's rank if it is a command and else 0; its group; the number of the cell that it accesses, from 1, and else 0; and whether it writes there.
 pub struct Told {
     pub rank: usize,

@@ -1,60 +1,44 @@
--- `edges_of`: each turn is a law of `Turns`.
-use Prim.Native.Nat.{_-_, _≤_}
-use native.Mathlib.Nat.{min-le-right}
-use native.Mathlib.Omega.{arith}
+-- `edges_of`: the tables of either size are cleared, and have an entry for each cell that is accessed.
 use borrow.Author.Needs.{needs}
-use Rattle.model.specs.Limits.{maxItems}
-use Rattle.happens_before.specs.Drawn.{drawn}
-use Rattle.happens_before.specs.Drawing.{accessed, kept}
-use Rattle.happens_before.proofs.Turns.{Turn, turn-first, turn-next, turn-last}
+use Rattle.happens_before.specs.Told.{fewAddresses, maxAddresses}
+use Rattle.happens_before.proofs.Turns.{made-cleared, inside-any, rows-few, rows-drawn}
 use Rattle.happens_before.proofs.edges_of.Statement.{statement}
 use Rattle.happens_before.proofs.edges_of.Tie as tie
 
-abbrev Inv-loop : tie.InvT-loop
-Inv-loop trail items edges₀ commands₀ writes₀ newest₀ links₀ count₀ item₀ last edges commands writes newest links count item =
-    Turn trail last item (kept commands (accessed writes newest links)) (drawn count edges)
+small-requires : tie.Need-draw-items-requires
+small-requires c κs =
+    let atSmall = c .before .before .before in
+    let atRows = atSmall .before .before in
+    made-cleared fewAddresses (rows-few _ (atRows .rows-told .ensures)) (atSmall .before .is-small .ensures (atSmall .if1 .taken))
 
-abbrev μ-loop : tie.MeasureT-loop
-μ-loop trail items edges₀ commands₀ writes₀ newest₀ links₀ count₀ item₀ last edges commands writes newest links count item = last - item
+large-requires : tie.Need-draw-items-requires-2
+large-requires c κs =
+    let atRows = c .before .before .before .before .before in
+    made-cleared maxAddresses (rows-few _ (atRows .rows-told .ensures)) (inside-any _ _)
 
-loop-holds : tie.Need-loop-holds Inv-loop μ-loop
-loop-holds c = turn-first _ _
+returns : tie.Need-returns
+returns c =
+    let atDrawn = c .before .before in
+    let atRows = atDrawn .before .before .before .before .before .before in
+    rows-drawn _ _ _ (atRows .rows-told .ensures) (atDrawn .draw-items .ensures)
 
--- The place after the item was drawn, and the turn's.
-abbrev atDrawn : (c : tie.After-links2 Inv-loop μ-loop) → tie.After-draw-item Inv-loop μ-loop
-atDrawn c = let atWrites = c .before .before in atWrites .before .before
-
-abbrev atTurn : (c : tie.After-draw-item Inv-loop μ-loop) → tie.In-loop Inv-loop μ-loop
-atTurn c =
-    let atNewest = c .before .before .before in
-    atNewest .before .before .before
-
-loop-again : tie.Need-loop-again Inv-loop μ-loop
-loop-again c =
-    let drawn-one = atDrawn c in
-    let atTest = atTurn drawn-one in
-    let atLoop = atTest .before in
-    let few : atLoop .before .rows-told .result ≤ maxItems =
-    omega (arith, atLoop .before .rows-told .ensures, min-le-right (atLoop .before .before .before .args .items) maxItems) in
-    turn-next (atLoop .loop .inv) (atTest .loop-test .taken) few (drawn-one .draw-item .ensures)
-
-returns : tie.Need-returns Inv-loop μ-loop
-returns c = turn-last (c .before .loop .inv) _ (c .before .before .rows-told .ensures) (c .loop-test .left)
+returns-2 : tie.Need-returns-2
+returns-2 c =
+    let atDrawn = c .before .before in
+    let atRows = atDrawn .before .before .before .before .before .before in
+    rows-drawn _ _ _ (atRows .rows-told .ensures) (atDrawn .draw-items2 .ensures)
 
 pub edges-of-spec : {M : Type 1} → statement M
 edges-of-spec =
     tie.close
     (tie.spec
-    Inv-loop
-    μ-loop
     (λ c κs. search needs)
-    loop-holds
+    (λ c κs. rows-few _ (c .rows-told .ensures))
     (λ c. search needs)
     (λ c. search needs)
+    small-requires
+    returns
     (λ c. search needs)
     (λ c. search needs)
-    (λ c κs. search needs)
-    (λ c. search needs)
-    (λ c. search needs)
-    loop-again
-    returns)
+    large-requires
+    returns-2)
