@@ -21,7 +21,7 @@ const PROGRAM_START: usize = 51209;
 const RECORD_START: usize = 10243;
 
 // The longest listing that the limits of program and record allow.
-const LISTING: usize = 33803;
+const LISTING: usize = 44043;
 
 // The exit statuses.
 const ORDER: u8 = 0;

@@ -15,7 +15,7 @@ use borrow.Author.Tests.{lt-ltb, ltb-true}
 use Rattle.model.specs.declared.Header.{Header}
 use Rattle.model.specs.declared.Item.{Item}
 use Rattle.model.specs.declared.Kind.{Kind}
-use Rattle.model.specs.Limits.{maxRanks, maxCells, maxRegisters, maxQueues, maxStates, shortTransitions, longCount, maxItems}
+use Rattle.model.specs.Limits.{byteRanks, maxCells, maxRegisters, maxQueues, maxStates, shortTransitions, longCount, maxItems}
 use Rattle.model.specs.Refusals as Refusals
 use Rattle.model.specs.Refusals.{ok, programLength, programRange, recordLength, recordRange}
 use Rattle.model.specs.Choice.{between, lookup, member}
@@ -33,14 +33,15 @@ use Rattle.model.proofs.Laws.{refused≢ok, bind-ok, decided, between-t
 use Rattle.model.proofs.Bytes.{judged-ok, whole-ok}
 use Rattle.model.proofs.ItemForms.{original-maps, today-maps}
 
--- As many transitions at least, and every map.
+-- As many ranks and transitions at least, and every map.
 pub record Extends (old new : Format) : Type 0 where
+  pub ranks : old .ranks ≤ new .ranks
   pub transitions : old .transitions ≤ new .transitions
   pub maps : (kind : Kind) (map : ℕ) → member map (old .maps kind) ≡ true → member map (new .maps kind) ≡ true
 
 pub today-extends : Extends document01 today
 today-extends =
-    record { transitions = omega arith; maps = λ kind map h. today-maps .listed (original (original-maps .only kind map h)) }
+    record { ranks = omega arith; transitions = omega arith; maps = λ kind map h. today-maps .listed (original (original-maps .only kind map h)) }
 
 -- What the first reader finds, the second finds there.
 record Keeps {A : Type 0} (first second : Reader A) : Type 0 where
@@ -85,6 +86,13 @@ keeps-whole : {A : Type 0} (left : ℕ) {first second : Reader A} → Keeps firs
 unfolding whole
 keeps-whole left {first} keeps bytes h = rw (keeps .kept bytes 0 _ (whole-ok left first bytes h), eqb-refl (length bytes))
 
+-- A range that goes further.
+keeps-range : (low : ℕ) {high higher : ℕ} → high ≤ higher → (number : ℕ) (read : Reader ℕ) →
+    Keeps (judged (between low high) number read) (judged (between low higher) number read)
+keeps-range low {high} {higher} further number read =
+    keeps-judged (between low high) (between low higher) number read
+    λ n h. let within = between-true low high n h in true-between low higher n (record { low = within .low; high = omega (arith, within .high) })
+
 module _ {old new : Format} (wider : Extends old new) where
   -- The program.
   byte-kept : (n : ℕ) → countByte (old .transitions) n ≡ true → countByte (new .transitions) n ≡ true
@@ -93,24 +101,17 @@ module _ {old new : Format} (wider : Extends old new) where
       (λ t. rw t (lt-ltb shortTransitions (new .transitions) (omega (arith, wider .transitions, ltb-true shortTransitions (old .transitions) (rw t at h)))))
       (λ t. rw t (rw t at h))
 
-  range-kept : (n : ℕ) → between (shortTransitions + 1) (old .transitions) n ≡ true → between (shortTransitions + 1) (new .transitions) n ≡ true
-  range-kept n h =
-      let within = between-true (shortTransitions + 1) (old .transitions) n h in
-      true-between (shortTransitions + 1) (new .transitions) n
-      (record { low = within .low; high = omega (arith, within .high, wider .transitions) })
-
   count-kept : Keeps (transitionCount (old .transitions)) (transitionCount (new .transitions))
   unfolding transitionCount
   count-kept =
       keeps-bind (keeps-judged (countByte (old .transitions)) (countByte (new .transitions)) programRange (byte programLength) byte-kept) λ count.
       keeps-optional (eqb count longCount) count
-      (keeps-judged (between (shortTransitions + 1) (old .transitions)) (between (shortTransitions + 1) (new .transitions)) programRange
-      (word programLength) range-kept)
+      (keeps-range (shortTransitions + 1) (wider .transitions) programRange (word programLength))
 
   header-kept : Keeps (readHeaderIn old) (readHeaderIn new)
-  unfolding readHeaderIn
+  unfolding readHeaderIn headerNumber
   header-kept =
-      keeps-bind (keeps-same (headerNumber 1 maxRanks)) λ ranks.
+      keeps-bind (keeps-range 1 (wider .ranks) programRange (byte programLength)) λ ranks.
       keeps-bind (keeps-same (headerNumber 1 maxCells)) λ cells.
       keeps-bind (keeps-same (headerNumber 1 maxRegisters)) λ registers.
       keeps-bind (keeps-same (headerNumber 1 maxQueues)) λ queues.
@@ -124,7 +125,7 @@ module _ {old new : Format} (wider : Extends old new) where
       keeps-whole programLength (keeps-bind header-kept λ header. keeps-same _)
 
   -- The record.
-  form-kept : (at map : ℕ) (kind : Option Kind) → Keeps (judgedItemForm at (formOf old map kind)) (judgedItemForm at (formOf new map kind))
+  form-kept : (at map : ℕ) (kind : Option Kind) → Keeps (judgedItemForm at (formOf (old .maps) map kind)) (judgedItemForm at (formOf (new .maps) map kind))
   unfolding formOf judgedItemForm
   form-kept at map none = keeps-same _
   form-kept at map (some kind) =

@@ -115,7 +115,7 @@ each-map test passes has = each-map-in today-maps test passes has
 
 -- Of a format that lists the maps of a relation, the computed verdict is the papers' ..
 module _ {format : Format} {Has : Kind → ℕ → Type 0} (lists : Lists format Has) where
-  by-kind : (map number : ℕ) (found : Option Kind) → lookup number itemKinds ≡ found → FormIs Has map number (formOf format map found)
+  by-kind : (map number : ℕ) (found : Option Kind) → lookup number itemKinds ≡ found → FormIs Has map number (formOf (format .maps) map found)
   unfolding formOf
   by-kind map number none e =
       unknown-kind (λ kind same. Option·none-ne-some kind (sym e ∙ ap (λ n. lookup n itemKinds) (sym same) ∙ kind-found kind))

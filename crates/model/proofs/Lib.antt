@@ -11,6 +11,7 @@ pub mod Allowances
 pub mod Extents
 pub mod ItemForms
 pub mod Formats
+pub mod FewRanks
 pub mod OneForm
 pub mod Records
 pub mod Ranges

@@ -1,6 +1,6 @@
 -- The programs and records of document 01's "Runs to check by", and more of the same kind, byte by byte: a header, then a transition or an item to a
 -- line.
-use Prim.Native.Nat.{ℕ}
+use Prim.Native.Nat.{ℕ, _+_}
 use mathlib.Core.List.{List, [], _∷_, _++_}
 use Rattle.model.specs.Listings.{join}
 
@@ -141,3 +141,35 @@ longStore low placeRank value high = 0 ∷ 1 ∷ 187 ∷ 2 ∷ 1 ∷ low ∷ pla
 
 unfoldable pub longAssume : (rank low high : ℕ) → List ℕ
 longAssume rank low high = 0 ∷ 1 ∷ 131 ∷ 4 ∷ rank ∷ low ∷ high ∷ []
+
+-- Document 02, #105. N ranks with a cell each, and one bar from state 0 to state 1; and so many bars, ranks rising from a first one on.
+unfoldable pub barAlone : (ranks : ℕ) → List ℕ
+barAlone ranks = ranks ∷ 1 ∷ 1 ∷ 1 ∷ 2 ∷ 1 ∷ 0 ∷ 9 ∷ 0 ∷ 1 ∷ []
+
+unfoldable pub barItems : (first count : ℕ) → List ℕ
+barItems first ℕ.zero = []
+barItems first (ℕ.suc count) = 3 ∷ 9 ∷ first ∷ 0 ∷ barItems (first + 1) count
+
+unfoldable pub barRecord : (count : ℕ) → List ℕ
+unfolding barItems
+barRecord count = 0 ∷ count ∷ barItems 1 count
+
+-- N ranks with a cell each: store rank into cell 0; write cell 0 to cell 0 of rank 25 − own rank.
+unfoldable pub farCopy : (ranks : ℕ) → List ℕ
+unfolding join
+farCopy ranks =
+    join
+    ((ranks ∷ 1 ∷ 1 ∷ 1 ∷ 3 ∷ 2 ∷ []) ∷
+    (6 ∷ 2 ∷ 0 ∷ 1 ∷ 0 ∷ 0 ∷ 0 ∷ 2 ∷ []) ∷
+    (30 ∷ 6 ∷ 1 ∷ 2 ∷ 0 ∷ 0 ∷ 0 ∷ 0x11 ∷ 0 ∷ 0 ∷ 25 ∷ 2 ∷ 0 ∷ 0 ∷ 0 ∷ 0 ∷ 0 ∷ 0 ∷ []) ∷ [])
+
+-- A rank's store and write; its popa and, at the other rank, popb.
+unfoldable pub farCommands : (rank : ℕ) → List ℕ
+farCommands rank = 27 ∷ 2 ∷ rank ∷ 0 ∷ rank ∷ 0 ∷ 0 ∷ 3 ∷ 6 ∷ rank ∷ 1 ∷ []
+
+unfoldable pub farPops : (rank other : ℕ) → List ℕ
+farPops rank other = 29 ∷ 7 ∷ rank ∷ 0 ∷ rank ∷ 0 ∷ 0 ∷ 29 ∷ 8 ∷ rank ∷ 0 ∷ other ∷ 0 ∷ 0 ∷ []
+
+unfoldable pub farRecord : (rank other : ℕ) → List ℕ
+unfolding farCommands farPops
+farRecord rank other = 0 ∷ 4 ∷ (farCommands rank ++ farPops rank other)

@@ -1,5 +1,5 @@
 -- The starred runs of document 01, a run for each refusal and each of its "Mistakes that look sound", and the forms and refusals that document 02's
--- #107 brought, as one table in four sections. Expected answers were worked out by hand from the papers. A theorem for each section, and one for the
+-- #107 and #105 brought, as one table in five sections. Expected answers were worked out by hand from the papers. A theorem for each section, and one for the
 -- table, says that the definitions give each of them.
 use Prim.Native.Nat.{ℕ, _+_, _-_}
 use mathlib.Core.Path.{_≡_, refl, sym, _∙_, ap₂}
@@ -12,9 +12,9 @@ use Rattle.model.specs.declared.Filled.the-variants.{Entries}
 use Rattle.model.specs.declared.Refusal.{Refusal}
 use Rattle.model.specs.Formats.{itemMaps}
 use Rattle.model.specs.Checks.{Outcome, checkIn, check, checkBytesIn, checkBytes}
-use Rattle.model.specs.Slips.{Lent, writeSlipIn, writeSlip, readSlip}
+use Rattle.model.specs.Slips.{Lent, writeSlipIn, writeSlip, readSlipIn, readSlip}
 use Rattle.model.specs.Listings.{Listing, listingIn, listing, join}
-use Rattle.model.proofs.Samples.{neighbour, noItems, lateDelivery, deliveryFirst, alone, selfCopy, writeItem, popItem, copyThenStore, storeItem, assumeOf, storeTo, storeOf, valueItem, sums, twoTransfers, overtaking, barsThenStore, longStore, longAssume}
+use Rattle.model.proofs.Samples.{neighbour, noItems, lateDelivery, deliveryFirst, alone, selfCopy, writeItem, popItem, copyThenStore, storeItem, assumeOf, storeTo, storeOf, valueItem, sums, twoTransfers, overtaking, barsThenStore, longStore, longAssume, barAlone, barRecord, farCopy, farCommands, farRecord}
 
 -- What is asked: the whole check with what both lists hold, the same on bytes, a listing or a slip with what the memory holds, a slip read with N and
 -- what the counts hold.
@@ -32,7 +32,7 @@ pub data Reply : Type 0 where
 
 -- What the definitions say.
 pub reply : Question → Reply
-unfolding itemMaps checkIn checkBytesIn listingIn writeSlipIn readSlip
+unfolding itemMaps checkIn checkBytesIn listingIn writeSlipIn readSlipIn
 reply (checks program recorded order cells) = checked (check program recorded order cells)
 reply (enters program recorded order cells) = checked (checkBytes program recorded order cells)
 reply (lists program recorded memory) = printed (listing program recorded memory)
@@ -148,6 +148,17 @@ lateListing =
 refusedLine10 : List ℕ
 refusedLine10 = 114 ∷ 101 ∷ 102 ∷ 117 ∷ 115 ∷ 101 ∷ 100 ∷ 32 ∷ 49 ∷ 32 ∷ 48 ∷ 10 ∷ []
 
+-- The listing of rank 16's copy to rank 9.
+farListing : List ℕ
+unfolding join
+farListing =
+    join
+    ((111 ∷ 114 ∷ 100 ∷ 101 ∷ 114 ∷ 32 ∷ 50 ∷ 10 ∷ []) ∷
+    (103 ∷ 114 ∷ 111 ∷ 117 ∷ 112 ∷ 32 ∷ 48 ∷ 32 ∷ 115 ∷ 116 ∷ 111 ∷ 114 ∷ 101 ∷ 32 ∷ 49 ∷ 54 ∷ 32 ∷ 48 ∷ 10 ∷ []) ∷
+    (103 ∷ 114 ∷ 111 ∷ 117 ∷ 112 ∷ 32 ∷ 49 ∷ 32 ∷ 119 ∷ 114 ∷ 105 ∷ 116 ∷ 101 ∷ 32 ∷ 49 ∷ 54 ∷ 32 ∷ 49 ∷ 10 ∷ []) ∷
+    (99 ∷ 101 ∷ 108 ∷ 108 ∷ 32 ∷ 57 ∷ 32 ∷ 48 ∷ 32 ∷ 49 ∷ 54 ∷ 10 ∷ []) ∷
+    (99 ∷ 101 ∷ 108 ∷ 108 ∷ 32 ∷ 49 ∷ 54 ∷ 32 ∷ 48 ∷ 32 ∷ 49 ∷ 54 ∷ 10 ∷ []) ∷ [])
+
 -- The readers: what is refused of program, record and slip bytes, at places that tell neighbouring readings apart.
 pub readingRows : List Row
 unfolding neighbour noItems alone storeOf valueItem sums orderRow refusedRow filled notFilled nines
@@ -158,7 +169,7 @@ readingRows =
     refusedRow (1 ∷ 1 ∷ 1 ∷ 1 ∷ 1 ∷ 0 ∷ 7 ∷ 7 ∷ []) noItems 1 6 ∷
     -- 2: a header number before what is missing after it; a from state; a register of a load; one in an expression
     refusedRow (0 ∷ []) [] 2 0 ∷
-    refusedRow (9 ∷ 1 ∷ []) [] 2 0 ∷
+    refusedRow (17 ∷ 1 ∷ []) [] 2 0 ∷
     refusedRow (1 ∷ 65 ∷ []) [] 2 1 ∷
     refusedRow (1 ∷ 1 ∷ 1 ∷ 1 ∷ 1 ∷ 129 ∷ []) [] 2 5 ∷
     refusedRow (alone 1 (0 ∷ 9 ∷ 2 ∷ 0 ∷ [])) noItems 2 8 ∷
@@ -189,7 +200,7 @@ readingRows =
     -- the slip read: 0 for a rank without a bit; 16, then 15
     filled (reads 3 (5 ∷ 0 ∷ 4 ∷ 4 ∷ 0 ∷ []) (nines 4)) (4 ∷ 0 ∷ 1_024 ∷ []) ∷
     notFilled (reads 0 (0 ∷ []) (nines 1)) 1 16 0 ∷
-    notFilled (reads 9 (0 ∷ []) (nines 9)) 9 16 0 ∷
+    notFilled (reads 17 (0 ∷ 0 ∷ []) (nines 17)) 17 16 0 ∷
     notFilled (reads 2 [] (nines 2)) 2 16 0 ∷
     notFilled (reads 2 (4 ∷ 0 ∷ 1 ∷ []) (nines 2)) 2 16 0 ∷
     notFilled (reads 2 (1 ∷ 0 ∷ 0 ∷ []) (nines 2)) 2 16 1 ∷
@@ -307,6 +318,46 @@ transitionRows =
     -- "bit 7 stands only with bit 1"
     refusedRow (storeTo 0) (0 ∷ 1 ∷ 157 ∷ 7 ∷ 1 ∷ 0 ∷ 1 ∷ 0 ∷ 0 ∷ 0 ∷ []) 6 2 ∷ []
 
+-- Document 02, #105: N up to 16 wherever a rank stands, and the two widths of a slip's map.
+pub rankRows : List Row
+unfolding orderRow refusedRow refusedWith listingRow filled notFilled nines barAlone barRecord farCopy farCommands farRecord farListing
+rankRows =
+    -- the header: 9 and 16 are right
+    refusedRow (9 ∷ []) [] 1 1 ∷
+    refusedRow (16 ∷ []) [] 1 1 ∷
+    -- an item's rank and its place's: up to N
+    refusedRow (barAlone 16) (0 ∷ 1 ∷ 3 ∷ 9 ∷ 17 ∷ 0 ∷ []) 5 4 ∷
+    refusedRow (barAlone 9) (0 ∷ 1 ∷ 3 ∷ 9 ∷ 10 ∷ 0 ∷ []) 5 4 ∷
+    refusedRow (barAlone 15) (0 ∷ 1 ∷ 29 ∷ 7 ∷ 15 ∷ 0 ∷ 16 ∷ 0 ∷ 0 ∷ []) 5 6 ∷
+    -- a row ends at rank N: nine bars are one group, and after eight the row is open
+    orderRow (barAlone 9) (barRecord 9) (0 ∷ []) (replicate 9 0) ∷
+    refusedRow (barAlone 9) (barRecord 8) 12 8 ∷
+    orderRow (barAlone 16) (barRecord 16) (0 ∷ []) (replicate 16 0) ∷
+    -- rank 16 copies to rank 9, and rank 9 to rank 16; there is no rank 16 of 15
+    orderRow (farCopy 16) (farRecord 16 9) (0 ∷ 1 ∷ []) (replicate 8 0 ++ 16 ∷ (replicate 6 0 ++ 16 ∷ [])) ∷
+    orderRow (farCopy 16) (farRecord 9 16) (0 ∷ 1 ∷ []) (replicate 8 0 ++ 9 ∷ (replicate 6 0 ++ 9 ∷ [])) ∷
+    refusedRow (farCopy 15) (0 ∷ 2 ∷ farCommands 9) 8 1 ∷
+    refusedWith 2 15 (farCopy 16) (farRecord 16 9) 15 16 ∷
+    listingRow (farCopy 16) (farRecord 16 9) (Order 2) farListing ∷
+    -- "the rank map takes two bytes if N is above 8 and one otherwise", the high byte first
+    filled (writes (barAlone 8) (barRecord 8) (nines 18)) (255 ∷ 0 ∷ 1 ∷ 0 ∷ 1 ∷ 0 ∷ 1 ∷ 0 ∷ 1 ∷ 0 ∷ 1 ∷ 0 ∷ 1 ∷ 0 ∷ 1 ∷ 0 ∷ 1 ∷ []) ∷
+    filled (writes (barAlone 9) (barRecord 9) (nines 21))
+    (1 ∷ 255 ∷ 0 ∷ 1 ∷ 0 ∷ 1 ∷ 0 ∷ 1 ∷ 0 ∷ 1 ∷ 0 ∷ 1 ∷ 0 ∷ 1 ∷ 0 ∷ 1 ∷ 0 ∷ 1 ∷ 0 ∷ 1 ∷ []) ∷
+    filled (writes (farCopy 16) (farRecord 16 9) (nines 5)) (128 ∷ 0 ∷ 0 ∷ 2 ∷ []) ∷
+    filled (writes (barAlone 9) (0 ∷ 0 ∷ []) (nines 3)) (0 ∷ 0 ∷ []) ∷
+    notFilled (writes (barAlone 9) (0 ∷ 0 ∷ []) (nines 1)) 1 15 2 ∷
+    filled (reads 9 (1 ∷ 1 ∷ 0 ∷ 3 ∷ 4 ∷ 0 ∷ []) (nines 10)) (3 ∷ 0 ∷ 0 ∷ 0 ∷ 0 ∷ 0 ∷ 0 ∷ 0 ∷ 1_024 ∷ []) ∷
+    filled (reads 16 (128 ∷ 0 ∷ 0 ∷ 2 ∷ []) (nines 17)) (replicate 15 0 ++ 2 ∷ []) ∷
+    filled (reads 8 (128 ∷ 0 ∷ 2 ∷ []) (nines 9)) (0 ∷ 0 ∷ 0 ∷ 0 ∷ 0 ∷ 0 ∷ 0 ∷ 2 ∷ []) ∷
+    -- a byte of the map is missing; a bit for a rank above N, in either byte
+    notFilled (reads 9 (0 ∷ []) (nines 9)) 9 16 1 ∷
+    notFilled (reads 9 (2 ∷ 1 ∷ 0 ∷ 1 ∷ 0 ∷ 1 ∷ []) (nines 9)) 9 16 0 ∷
+    notFilled (reads 15 (128 ∷ 1 ∷ 0 ∷ 1 ∷ 0 ∷ 1 ∷ []) (nines 15)) 15 16 0 ∷
+    notFilled (reads 7 (128 ∷ 0 ∷ 1 ∷ []) (nines 7)) 7 16 0 ∷
+    -- another N than the slip was written for: the map's second byte is half a count, a count's high byte half a map
+    notFilled (reads 8 (1 ∷ 0 ∷ 0 ∷ 2 ∷ []) (nines 8)) 8 16 1 ∷
+    notFilled (reads 9 (1 ∷ 0 ∷ 2 ∷ []) (nines 9)) 9 16 3 ∷ []
+
 -- The definitions give the answer of each of these rows.
 abbrev pub Answered : List Row → Type 0
 Answered rows = map (λ row. reply (row .question)) rows ≡ map (λ row. row .expected) rows
@@ -328,13 +379,18 @@ pub transition-rows : Answered transitionRows
 unfolding reply transitionRows
 transition-rows = refl
 
+pub rank-rows : Answered rankRows
+unfolding reply rankRows
+rank-rows = refl
+
 -- And the one of the whole table.
 answered-both : (rows more : List Row) → Answered rows → Answered more → Answered (rows ++ more)
 answered-both rows more h g =
     map-append (λ (row : Row). reply (row .question)) rows more ∙ ap₂ _++_ h g ∙ sym (map-append (λ (row : Row). row .expected) rows more)
 
-pub every-row : Answered (readingRows ++ (replayRows ++ (verdictRows ++ transitionRows)))
+pub every-row : Answered (readingRows ++ (replayRows ++ (verdictRows ++ (transitionRows ++ rankRows))))
 every-row =
-    answered-both readingRows (replayRows ++ (verdictRows ++ transitionRows)) reading-rows
-    (answered-both replayRows (verdictRows ++ transitionRows) replay-rows
-    (answered-both verdictRows transitionRows verdict-rows transition-rows))
+    answered-both readingRows (replayRows ++ (verdictRows ++ (transitionRows ++ rankRows))) reading-rows
+    (answered-both replayRows (verdictRows ++ (transitionRows ++ rankRows)) replay-rows
+    (answered-both verdictRows (transitionRows ++ rankRows) verdict-rows
+    (answered-both transitionRows rankRows transition-rows rank-rows)))

@@ -10,7 +10,7 @@ use mathlib.Core.Bool.{true}
 use mathlib.Core.List.{List, [], _∷_}
 use Rattle.model.specs.declared.Kind.{Kind}
 use Rattle.model.specs.declared.Kind.the-variants.{Load, Store, Assign, Assume, Read, Write, Popa, Popb, Bar}
-use Rattle.model.specs.Limits.{shortTransitions, maxTransitions}
+use Rattle.model.specs.Limits.{byteRanks, maxRanks, shortTransitions, maxTransitions}
 use Rattle.model.specs.Choice.{bit}
 
 -- Document 01: "Maps: load and store 27, or 59 with a value; assign, assume, read, write and bar 3; popa (kind 7) and popb (kind 8) 29, or 61 with a
@@ -58,15 +58,20 @@ itemMaps Popa = 29 ∷ 61 ∷ []
 itemMaps Popb = 29 ∷ 61 ∷ []
 itemMaps Bar = 3 ∷ 131 ∷ []
 
--- What differs from format to format: the most transitions, and an item's maps by its kind.
+-- What differs from format to format: the most ranks, the most transitions, and an item's maps by its kind.
 pub record Format : Type 0 where
+  pub ranks : ℕ
   pub transitions : ℕ
   pub maps : Kind → List ℕ
 
--- Document 01's: "T transitions (0..128)", and the maps of its sentence.
+-- Document 01's: "N 1..8", "T transitions (0..128)", and the maps of its sentence.
 abbrev pub document01 : Format
-document01 = record { transitions = shortTransitions; maps = originalMaps }
+document01 = record { ranks = byteRanks; transitions = shortTransitions; maps = originalMaps }
 
--- Today's: "T may reach 400".
+-- Today's: "N goes to 16", "T may reach 400".
 abbrev pub today : Format
-today = record { transitions = maxTransitions; maps = itemMaps }
+today = record { ranks = maxRanks; transitions = maxTransitions; maps = itemMaps }
+
+-- The format that differs in its most ranks alone.
+abbrev pub upTo : (ranks : ℕ) → Format → Format
+upTo ranks format = record { ranks = ranks; transitions = format .transitions; maps = format .maps }

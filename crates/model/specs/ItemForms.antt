@@ -3,6 +3,7 @@
 -- proofs/ItemForms.antt).
 use Prim.Native.Nat.{ℕ, _+_}
 use mathlib.Core.Path.{_≡_}
+use mathlib.Core.List.{List}
 use mathlib.Core.Option.{Option, some, none}
 use Rattle.model.specs.declared.Kind.{Kind}
 use Rattle.model.specs.declared.ItemForm.{ItemForm}
@@ -21,15 +22,15 @@ pub data FormIs (Has : Kind → ℕ → Type 0) (map number : ℕ) : ItemForm �
   wrong-map : (kind : Kind) → kindNumber kind ≡ number → ¬ (Has kind map) → FormIs Has map number WrongMap
 
 -- A map against the kind that was found under a number, if one was.
-unfoldable pub formOf : Format → (map : ℕ) → Option Kind → ItemForm
+unfoldable pub formOf : (maps : Kind → List ℕ) → (map : ℕ) → Option Kind → ItemForm
 unfolding member
-formOf format map none = UnknownKind
-formOf format map (some kind) = when (member map (format .maps kind)) (λ _. Good kind) (λ _. WrongMap)
+formOf maps map none = UnknownKind
+formOf maps map (some kind) = when (member map (maps kind)) (λ _. Good kind) (λ _. WrongMap)
 
 -- The verdict, computed.
 unfoldable pub itemFormIn : Format → (map number : ℕ) → ItemForm
 unfolding lookup itemKinds formOf
-itemFormIn format map number = formOf format map (lookup number itemKinds)
+itemFormIn format map number = formOf (format .maps) map (lookup number itemKinds)
 
 abbrev pub itemForm : (map number : ℕ) → ItemForm
 itemForm = itemFormIn today

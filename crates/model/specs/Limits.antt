@@ -1,9 +1,13 @@
 -- The limits of the formats, document 01's and those that document 02 widened, each under one name.
 use Prim.Native.Nat.{ℕ}
 
--- "Ranks 1 to N, N 1..8."
+-- "Ranks 1 to N, N 1..8": as many as a byte map has bits.
+abbrev pub byteRanks : ℕ
+byteRanks = 8
+
+-- Document 02, #105: "The machine grows, so N goes to 16."
 abbrev pub maxRanks : ℕ
-maxRanks = 8
+maxRanks = 16
 
 -- "Each rank has A cells (1..64), R registers (1..16), Q queues (1..4), all numbered from 0."
 abbrev pub maxCells : ℕ

@@ -114,11 +114,11 @@ transitionCount most = do
   count ← judged (countByte most) programRange (byte programLength)
   optional (eqb count longCount) count (judged (between (shortTransitions + 1) most) programRange (word programLength))
 
--- "N 1..8", "A cells (1..64), R registers (1..16), Q queues (1..4)", "S control states (1..64)", and T.
+-- "N goes to 16", "A cells (1..64), R registers (1..16), Q queues (1..4)", "S control states (1..64)", and T.
 unfoldable pub readHeaderIn : Format → Reader Header
 unfolding headerNumber transitionCount
 readHeaderIn format = do
-  ranks ← headerNumber 1 maxRanks
+  ranks ← headerNumber 1 (format .ranks)
   cells ← headerNumber 1 maxCells
   registers ← headerNumber 1 maxRegisters
   queues ← headerNumber 1 maxQueues

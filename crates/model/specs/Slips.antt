@@ -5,7 +5,7 @@ use lib.Dec.{ltb, leb}
 use lib.ListN.{length}
 use Rattle.model.specs.declared.Filled.{Filled}
 use Rattle.model.specs.declared.Filled.the-variants.{Entries, Refused}
-use Rattle.model.specs.Limits.{maxRanks, maxItems}
+use Rattle.model.specs.Limits.{byteRanks, maxItems}
 use Rattle.model.specs.Refusals as Refusals
 use Rattle.model.specs.Refusals.{Result, ok, refused, require, memoryTooShort, slipForm}
 use Rattle.model.specs.Choice.{when, between, bit, numbersFrom}
@@ -28,10 +28,18 @@ lend memory (ok entries) =
     (λ _. record { answer = Entries (length entries); memory = fill entries memory })
     (λ _. record { answer = Refused (record { number = memoryTooShort; place = length entries }); memory = memory })
 
--- "a byte map of ranks that have a command item (bit r − 1 for rank r)"
+-- "a .. map of ranks that have a command item (bit r − 1 for rank r)"
 unfoldable pub rankMap : (taken : ℕ → ℕ) → List ℕ → ℕ
 rankMap taken [] = 0
 rankMap taken (r ∷ ranks) = when (ltb 0 (taken r)) (λ _. 2 ^ (r - 1)) (λ _. 0) + rankMap taken ranks
+
+-- "the rank map takes two bytes if N is above 8 and one otherwise" (document 02, #105).
+unfoldable pub mapBytes : (ranks map : ℕ) → List ℕ
+mapBytes ranks map = when (ltb byteRanks ranks) (λ _. wordBytes map) (λ _. map ∷ [])
+
+unfoldable pub mapField : (ranks : ℕ) → Reader ℕ
+unfolding byte word
+mapField ranks = when (ltb byteRanks ranks) (λ _. word slipForm) (λ _. byte slipForm)
 
 -- "then for each a two-byte count of those items, ranks rising"
 unfoldable pub countBytes : (taken : ℕ → ℕ) → List ℕ → List ℕ
@@ -39,10 +47,10 @@ countBytes taken [] = []
 countBytes taken (r ∷ ranks) = when (ltb 0 (taken r)) (λ _. wordBytes (taken r)) (λ _. []) ++ countBytes taken ranks
 
 unfoldable pub slipOf : Accepted → List ℕ
-unfolding numbersFrom rankMap countBytes
+unfolding numbersFrom rankMap mapBytes countBytes
 slipOf a =
     let ranks : List ℕ = numbersFrom 1 (a .program .header .ranks) in
-    rankMap (a .run .last .taken) ranks ∷ countBytes (a .run .last .taken) ranks
+    mapBytes (a .program .header .ranks) (rankMap (a .run .last .taken) ranks) ++ countBytes (a .run .last .taken) ranks
 
 -- "The slip writer and the listing refuse program and record as the check does, then look at 15 only."
 unfoldable pub writeSlipIn : Format → (program recorded memory : List ℕ) → Lent
@@ -64,14 +72,18 @@ readCounts map (r ∷ ranks) = do
 
 -- "a bit for a rank above N is 16 at byte 0"
 unfoldable pub slipReader : (ranks : ℕ) → Reader (List ℕ)
-unfolding byte judged numbersFrom readCounts
+unfolding mapField judged numbersFrom readCounts
 slipReader ranks = do
-  map ← judged (λ m. ltb m (2 ^ ranks)) slipForm (byte slipForm)
+  map ← judged (λ m. ltb m (2 ^ ranks)) slipForm (mapField ranks)
   readCounts map (numbersFrom 1 ranks)
 
--- "A slip reader is given N and fills N counts .. it looks at 16 before 15. N outside 1..8 .. is 16 at byte 0."
-unfoldable pub readSlip : (ranks : ℕ) → (slip counts : List ℕ) → Lent
+-- "A slip reader is given N and fills N counts .. it looks at 16 before 15. N outside 1..8 .. is 16 at byte 0"; document 02, #105: "The reader takes
+-- N 1..16."
+unfoldable pub readSlipIn : Format → (ranks : ℕ) → (slip counts : List ℕ) → Lent
 unfolding whole slipReader lend
-readSlip ranks slip counts =
+readSlipIn format ranks slip counts =
     lend counts
-    (Refusals._>>=_ (require (between 1 maxRanks ranks) slipForm 0) (λ _. whole slipForm (slipReader ranks) slip))
+    (Refusals._>>=_ (require (between 1 (format .ranks) ranks) slipForm 0) (λ _. whole slipForm (slipReader ranks) slip))
+
+abbrev pub readSlip : (ranks : ℕ) → (slip counts : List ℕ) → Lent
+readSlip = readSlipIn today

@@ -2,8 +2,11 @@
 // fails where the two differ. Every number of the formats has sixteen bits here, whether its field has one byte or two.
 pub mod refusals;
 
-// "Ranks 1 to N, N 1..8." What is held per rank has a row for each, rank 1 first.
-pub const RANKS: usize = 8;
+// "Ranks 1 to N"; document 02, #105: "N goes to 16". What is held per rank has a row for each, rank 1 first.
+pub const RANKS: usize = 16;
+
+// As many ranks as the rank map of one byte has bits.
+pub const BYTE_RANKS: u16 = 8;
 
 pub type Control = [u16; RANKS];
 

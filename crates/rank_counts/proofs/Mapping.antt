@@ -9,11 +9,12 @@ use lib.Count.{ones}
 use lib.Dec.{ltb}
 use lib.ListN.{length, getD, length-map}
 use borrow.Author.Tests.{lt-ltb, le-ltb}
-use Rattle.model.specs.Limits.{maxRanks}
+use Rattle.model.specs.Limits.{byteRanks, maxRanks}
 use Rattle.model.specs.Choice.{numbersFrom}
 use Rattle.model.specs.Slips.{rankMap}
+use Rattle.model.proofs.Laws.{decided}
 use Rattle.bitmap.proofs.Bits.{shifted}
-use Rattle.rank_counts.specs.Maps.{rowsOf}
+use Rattle.rank_counts.specs.Maps.{rowsOf, mapLength}
 use Rattle.rank_counts.specs.Counts.{countFor, mapOf, countsOf}
 use Rattle.rank_counts.proofs.RankMaps.{held, mapTo, map-fits, map-joined, map-without}
 use Rattle.rank_counts.proofs.Rows.{rows-ones}
@@ -61,3 +62,10 @@ map-small counts = map-fits (countFor counts) maxRanks
 pub counts-ones : (map : ℕ) (counts : List ℕ) → map < 2 ^ maxRanks → length (countsOf map counts) ≡ ones map
 unfolding countsOf
 counts-ones map counts small = length-map (rowsOf map) (λ row. getD counts row 0) ∙ sym (rows-ones map small)
+
+-- One byte or two.
+pub map-length-some : (ranks : ℕ) → 1 ≤ mapLength ranks
+map-length-some ranks = decided (ltb byteRanks ranks) (λ t. rw t (omega arith)) (λ t. rw t (omega arith))
+
+pub map-length-few : (ranks : ℕ) → mapLength ranks ≤ 2
+map-length-few ranks = decided (ltb byteRanks ranks) (λ t. rw t (omega arith)) (λ t. rw t (omega arith))

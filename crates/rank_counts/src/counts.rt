@@ -40,7 +40,7 @@ pub fn command_counts(trail: &Trail, items: usize) -> Counts
 }
 
 // The counts of the map's ranks, ranks rising, in the first entries.
-pub fn counts_of(map: u8, counts: &Counts) -> Counts
+pub fn counts_of(map: u16, counts: &Counts) -> Counts
     ensures { λ r. ⌜ r ≡ fill (countsOf map (now (counts .entry))) noCounts ⌝ }
 {
     let mut listed = [0; RANKS];

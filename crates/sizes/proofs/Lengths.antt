@@ -22,6 +22,7 @@ use Rattle.model.specs.Listings.{groupLine, groupLines, cellLine, join, refused
 use Rattle.model.proofs.Laws.{decided}
 use Rattle.model.proofs.Listings.{decimal-short, kind-short}
 use Rattle.ordering.proofs.Lists.{_∈_, here, there}
+use Rattle.sizes.specs.Sizes.{maxVerdictLine, maxGroupLine, maxCellLine}
 use Rattle.sizes.proofs.Refusals.{RefusalFits}
 
 -- The words of a line, each with the byte behind it.
@@ -39,21 +40,21 @@ word-short : (v : Verdict) → length (verdictWord v) ≤ 5
 word-short (ordered groups) = omega arith
 word-short (cyclic groups) = omega arith
 
-pub verdict-line-short : (v : Verdict) (count : ℕ) → count ≤ maxItems → length (line (verdictWord v) (decimal count ∷ [])) ≤ 11
+pub verdict-line-short : (v : Verdict) (count : ℕ) → count ≤ maxItems → length (line (verdictWord v) (decimal count ∷ [])) ≤ maxVerdictLine
 verdict-line-short v count few =
     omega (arith, line-length (verdictWord v) (decimal count ∷ []), word-short v, decimal-short 3 count (omega (arith, few)))
 
--- `group 1023 assign 8 1023`.
-rank-short : (bar : Bool) (rank : ℕ) → rank ≤ maxRanks → length (decimal (when bar (λ _. 0) (λ _. rank))) ≤ 1
-rank-short true rank low = decimal-short 0 0 (omega arith)
-rank-short false rank low = decimal-short 0 rank (omega (arith, low))
+-- `group 1023 assign 16 1023`.
+rank-short : (bar : Bool) (rank : ℕ) → rank ≤ maxRanks → length (decimal (when bar (λ _. 0) (λ _. rank))) ≤ 2
+rank-short true rank low = decimal-short 1 0 (omega arith)
+rank-short false rank low = decimal-short 1 rank (omega (arith, low))
 
 -- Every event is of a rank that a program can have.
 abbrev pub RanksFit : List Event → Type 0
 RanksFit events = (i : ℕ) (e : Event) → At events i e → rankOf e ≤ maxRanks
 
 group-line-short : (g at : ℕ) (events : List Event) → g < maxItems → at + length events ≤ maxItems → RanksFit events →
-    length (groupLine g at events) ≤ 25
+    length (groupLine g at events) ≤ maxGroupLine
 unfolding groupLine
 group-line-short g at [] low few ranks = omega arith
 group-line-short g at (e ∷ events) low few ranks =
@@ -73,7 +74,7 @@ group-line-short g at (e ∷ events) low few ranks =
     (λ t. rw t (group-line-short g (at + 1) events low (omega arith) (λ i x at. ranks (suc i) x at)))
 
 pub group-lines-short : (groups : List ℕ) (events : List Event) → ((g : ℕ) → g ∈ groups → g < maxItems) → length events ≤ maxItems →
-    RanksFit events → length (groupLines groups events) ≤ length groups * 25
+    RanksFit events → length (groupLines groups events) ≤ length groups * maxGroupLine
 unfolding groupLines
 group-lines-short [] events low few ranks = omega arith
 group-lines-short (g ∷ groups) events low few ranks =
@@ -84,8 +85,8 @@ group-lines-short (g ∷ groups) events low few ranks =
       group-lines-short groups events (λ h m. low h (there m)) few ranks,
     )
 
--- `cell 8 63 65535`.
-cell-line-short : (cells : ℕ → ℕ → ℕ) (r a : ℕ) → r ≤ maxRanks → a < maxCells → cells r a < wordValues → length (cellLine cells r a) ≤ 16
+-- `cell 16 63 65535`.
+cell-line-short : (cells : ℕ → ℕ → ℕ) (r a : ℕ) → r ≤ maxRanks → a < maxCells → cells r a < wordValues → length (cellLine cells r a) ≤ maxCellLine
 unfolding cellLine
 cell-line-short cells r a rank cell fits =
     decided (eqb (cells r a) 0) (λ t. rw t (omega arith))
@@ -94,7 +95,7 @@ cell-line-short cells r a rank cell fits =
     (omega (
       arith,
       line-length cellWord (decimal r ∷ decimal a ∷ decimal (cells r a) ∷ []),
-      decimal-short 0 r (omega arith),
+      decimal-short 1 r (omega arith),
       decimal-short 1 a (omega arith),
       decimal-short 4 (cells r a) (omega arith),
     )))
@@ -125,13 +126,13 @@ module _ (most : ℕ) (f : ℕ → ℕ → List ℕ) where
       )
 
 pub cell-lines-short : (ranks width : ℕ) (cells : ℕ → ℕ → ℕ) → ranks ≤ maxRanks → width ≤ maxCells → ((r a : ℕ) → cells r a < wordValues) →
-    length (join (rankByRank ranks width (cellLine cells))) ≤ maxRanks * maxCells * 16
+    length (join (rankByRank ranks width (cellLine cells))) ≤ maxRanks * maxCells * maxCellLine
 unfolding rankByRank
 cell-lines-short ranks width cells few narrow fits =
     omega (
       arith,
-      ranks-short 16 (cellLine cells) 1 ranks width (λ r a rank cell. cell-line-short cells r a (omega arith) (omega arith) (fits r a)),
-      mul-le-mul few (mul-le-mul-right 16 narrow),
+      ranks-short maxCellLine (cellLine cells) 1 ranks width (λ r a rank cell. cell-line-short cells r a (omega arith) (omega arith) (fits r a)),
+      mul-le-mul few (mul-le-mul-right maxCellLine narrow),
     )
 
 -- `refused 15 51208`.

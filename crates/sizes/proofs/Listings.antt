@@ -1,4 +1,4 @@
--- No listing is longer than `order 1024` with 1,024 groups and 512 cells, each line with the largest numbers: a verdict lists at most as many groups
+-- No listing is longer than `order 1024` with 1,024 groups and 1,024 cells, each line with the largest numbers: a verdict lists at most as many groups
 -- as there are items, and a cell's value fits sixteen bits. So lent bytes that are as many hold every listing whole.
 use Prim.Native.Nat.{ℕ, _≤_, _<_}
 use mathlib.Core.Path.{_≡_, refl}

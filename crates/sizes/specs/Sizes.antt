@@ -10,10 +10,20 @@ maxProgramBytes = 51_208
 abbrev pub maxRecordBytes : ℕ
 maxRecordBytes = 10_242
 
--- `order 1024`, then 1,024 lines as `group 1023 assign 8 1023`, then 512 as `cell 8 63 65535`, each with its line feed.
-abbrev pub maxListingBytes : ℕ
-maxListingBytes = 33_803
+-- A listing's lines, each with its line feed: `order 1024`, `group 1023 assign 16 1023` and `cell 16 63 65535`.
+abbrev pub maxVerdictLine : ℕ
+maxVerdictLine = 11
 
--- The map, then a count of two bytes for each of eight ranks.
+abbrev pub maxGroupLine : ℕ
+maxGroupLine = 26
+
+abbrev pub maxCellLine : ℕ
+maxCellLine = 17
+
+-- The first once, and 1,024 of each of the others.
+abbrev pub maxListingBytes : ℕ
+maxListingBytes = 44_043
+
+-- The map of two bytes, then a count of two for each of sixteen ranks.
 abbrev pub maxSlipBytes : ℕ
-maxSlipBytes = 17
+maxSlipBytes = 34

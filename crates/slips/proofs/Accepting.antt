@@ -37,12 +37,14 @@ module _ (program recorded : List ℕ) {before after : Handed.Lent} {r : Accepta
   written-refused found = written _ (accept-refused _ handed found)
 
   pub written-accepted : {header : Header} {items groups : ℕ} → r ≡ Acceptance.the-variants.Accepted header items groups →
-      (counts : List ℕ) → counts ≡ tallied (ranksTold items (after .trail)) → {l : Lent} → l ≡ lend slip (ok (slipFrom counts)) →
+      (counts : List ℕ) → counts ≡ tallied (ranksTold items (after .trail)) → {l : Lent} →
+      l ≡ lend slip (ok (slipFrom (header .ranks) counts)) →
       l ≡ writeSlip program recorded slip
   written-accepted found counts is wrote =
       let known = accept-found _ handed found in
       let told = is ∙ ap₂ (λ n trail. tallied (ranksTold n trail)) (known .items-is) (known .trail-is) in
       wrote
+      ∙ ap (λ (h : Header). lend slip (ok (slipFrom (h .ranks) counts))) (known .header-is)
       ∙ ap (λ s. lend slip (ok s))
       (sym (slip-accepted _ program recorded (known .a) (known .is) counts (told ∙ commands-tallied _ program recorded (known .a) (known .is))))
       ∙ written (ok (known .a)) (known .is)

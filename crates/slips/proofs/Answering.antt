@@ -13,7 +13,7 @@ use Rattle.model.specs.Refusals.{Result, ok, refused, require, slipForm, memory
 use Rattle.model.specs.Choice.{between, numbersFrom}
 use Rattle.model.specs.Bytes.{whole}
 use Rattle.model.specs.Checks.{fill}
-use Rattle.model.specs.Slips.{lend, readSlip, slipReader}
+use Rattle.model.specs.Slips.{lend, readSlipIn, readSlip, slipReader}
 use Rattle.model.proofs.Laws.{required}
 use Rattle.model.proofs.Bytes.{finds-anything, finds-bind, finds-weaker, whole-finds}
 use Rattle.memory.proofs.Filled.{numbers-length}
@@ -70,7 +70,7 @@ module _ (ranks : ℕ) (slip : List ℕ) where
 
   module _ (counts : List ℕ) {k : SlipRead} (read : k ≡ readAs ranks (countsIn ranks slip)) where
     pub read-refused : {r : Refusal} → k .answer ≡ Filled.Refused r → answering (k .answer) counts ≡ readSlip ranks slip counts
-    unfolding readSlip lend
+    unfolding readSlipIn lend
     read-refused h = rw (h, right-refused (countsIn ranks slip) refl (rw read at h))
 
     module _ {needed : ℕ} (h : k .answer ≡ Filled.Entries needed) where
@@ -79,12 +79,12 @@ module _ (ranks : ℕ) (slip : List ℕ) where
 
       pub read-short : length counts < needed →
           answering (Filled.Refused (record { number = memoryTooShort; place = needed })) counts ≡ readSlip ranks slip counts
-      unfolding readSlip
+      unfolding readSlipIn
       read-short few = lends-nothing counts (take needed (k .counts)) (known .long) few ∙ ap (lend counts) (sym (known .is))
 
       pub read-written : needed ≤ length counts → (counts′ : List ℕ) → counts′ ≡ numbersWritten counts 0 (k .counts) needed →
           answering (Filled.Entries needed) counts′ ≡ readSlip ranks slip counts
-      unfolding readSlip
+      unfolding readSlipIn
       read-written room counts′ wrote =
           ap (answering (Filled.Entries needed)) (wrote ∙ front-written counts (k .counts) needed (known .enough) room)
           ∙ lends counts (take needed (k .counts)) (known .long) room

@@ -1,72 +1,120 @@
 -- The slip put into lent bytes: nothing where they are too few, and else the map and behind it the counts.
-use Prim.Native.Nat.{ℕ, suc, _-_, _*_, _≤_, _<_}
-use mathlib.Core.Path.{_≡_, refl, sym, ap, ap₂, _∙_}
-use mathlib.Core.List.{List, [], _∷_, append-nil}
+use Prim.Native.Nat.{ℕ, _-_, _*_, _/_, _%_, _≤_, _<_}
+use mathlib.Core.Path.{_≡_, sym, ap, ap₂, _∙_}
+use mathlib.Core.List.{List, [], _∷_, _++_, append-nil, append-assoc}
 use native.Mathlib.Omega.{arith}
 use lib.Count.{ones}
-use lib.ListN.{length, set, length-set}
-use lib.Seq.{take-length, drop-length}
+use lib.ListN.{length, set, drop, length-append, length-drop}
+use lib.Seq.{take-length, drop-length, drop-drop, take-at, drop-at}
+use borrow.Author.Tests.{lt-ltb, le-ltb}
 use borrow.Rule.Slice.PartMut.{midOf, putMid}
 use Rattle.model.specs.declared.Filled.the-variants.{Entries, Refused}
+use Rattle.model.specs.Limits.{byteRanks, byteValues}
 use Rattle.model.specs.Refusals.{ok, memoryTooShort}
 use Rattle.model.specs.Checks.{fill, entryBytes}
 use Rattle.model.specs.Slips.{lend}
 use Rattle.lists.specs.Written.{wordsWritten}
 use Rattle.lists.proofs.Results.{group-words-written}
-use Rattle.rank_counts.specs.Maps.{slipLength}
+use Rattle.rank_counts.specs.Maps.{mapLength, slipLength}
 use Rattle.rank_counts.specs.Counts.{noCounts, mapOf, countsOf}
-use Rattle.rank_counts.proofs.Mapping.{map-small, counts-ones}
+use Rattle.rank_counts.proofs.Mapping.{map-small, map-length-some, counts-ones}
 use Rattle.slips.specs.Answers.{answering}
-use Rattle.slips.specs.Writing.{slipFrom}
+use Rattle.slips.specs.Writing.{mapWritten, slipFrom}
 use Rattle.slips.proofs.Lending.{lends, lends-nothing}
-use Rattle.slips.proofs.Writing.{slip-length}
+use Rattle.slips.proofs.Writing.{written-length, slip-length}
 
--- Where the part behind the first byte is changed, the first byte stays.
-behind-first : (first x : ℕ) (rest part : List ℕ) →
-    let bytes : List ℕ = set (x ∷ rest) 0 first in
-    putMid 1 (length bytes - 1) bytes part ≡ first ∷ part
-behind-first first x rest part =
-    let e : suc (length rest) - 1 ≡ length rest = omega arith in
-    rw (e, drop-length rest) (ap {B = List ℕ} (λ l. first ∷ l) (append-nil part))
+-- The part behind a front: what it is, and that the front stays where it is changed.
+module _ (front rest : List ℕ) {behind : ℕ} (long : length front ≡ behind) where
+  part-length : length (front ++ rest) - behind ≡ length rest
+  part-length = omega (arith, length-append front rest, long)
 
-behind-is : (first x : ℕ) (rest : List ℕ) → let bytes : List ℕ = set (x ∷ rest) 0 first in midOf 1 (length bytes - 1) bytes ≡ rest
-behind-is first x rest =
-    let e : suc (length rest) - 1 ≡ length rest = omega arith in
-    rw (e, take-length rest)
+  part-is : midOf behind (length (front ++ rest) - behind) (front ++ rest) ≡ rest
+  part-is = rw (part-length, drop-at front rest behind long) (take-length rest)
 
-fill-first : (first : ℕ) (new : List ℕ) (x : ℕ) (rest : List ℕ) → first ∷ fill new rest ≡ fill (first ∷ new) (x ∷ rest)
+  part-put : (part : List ℕ) → putMid behind (length (front ++ rest) - behind) (front ++ rest) part ≡ front ++ part
+  part-put part =
+      rw (part-length, take-at front rest behind long, drop-at front rest behind long, drop-length rest)
+      (ap (λ l. front ++ l) (append-nil part))
+
+-- Entries that fill the bytes behind a front fill all bytes with the front.
+fill-behind : (front new bytes : List ℕ) → front ++ fill new (drop (length front) bytes) ≡ fill (front ++ new) bytes
 unfolding fill
-fill-first first new x rest = refl
+fill-behind front new bytes =
+    sym (append-assoc front new (drop (length new) (drop (length front) bytes)))
+    ∙ ap (λ l. (front ++ new) ++ l)
+    (drop-drop (length new) (length front) bytes ∙ ap (λ n. drop n bytes) (sym (length-append front new)))
 
--- All of it, where the bytes behind the map have room for the counts.
-whole-put : (counts : List ℕ) {map : ℕ} → map ≡ mapOf counts → (x : ℕ) (rest part : List ℕ) {count : ℕ} → 2 * count ≤ length rest →
-    count ≡ length (countsOf map counts) → part ≡ wordsWritten rest 0 (fill (countsOf map counts) noCounts) count →
-    map ∷ part ≡ fill (slipFrom counts) (x ∷ rest)
-unfolding slipFrom
-whole-put counts {map} is x rest part {count} room counted part-is =
-    ap {B = List ℕ} (λ l. map ∷ l)
-    (part-is ∙ group-words-written (countsOf map counts) rest noCounts count counted (omega arith))
-    ∙ ap (λ m. m ∷ fill (entryBytes (countsOf m counts)) rest) is
-    ∙ fill-first (mapOf counts) (entryBytes (countsOf (mapOf counts) counts)) x rest
+-- The map in its one byte or two.
+module _ (ranks : ℕ) (slip : List ℕ) (room : mapLength ranks ≤ length slip) where
+  pub first-room : 0 < length slip
+  first-room = omega (arith, room, map-length-some ranks)
 
-module _ (counts : List ℕ) {map needed : ℕ} (is : map ≡ mapOf counts) (long : needed ≡ slipLength map) where
-  needed-is : needed ≡ length (slipFrom counts)
-  needed-is = long ∙ ap slipLength is ∙ sym (slip-length counts)
+  pub second-room : byteRanks < ranks → 1 < length slip
+  second-room wide = rw (lt-ltb byteRanks ranks wide) at room
+
+module _ (ranks mapped : ℕ) where
+  pub wide-put : byteRanks < ranks → (slip : List ℕ) → mapLength ranks ≤ length slip →
+      set (set slip 0 (mapped / byteValues)) 1 (mapped % byteValues) ≡ fill (mapWritten ranks mapped) slip
+  unfolding fill mapWritten
+  wide-put wide [] room = absurd (omega (arith, second-room ranks [] room wide))
+  wide-put wide (x ∷ []) room = absurd (omega (arith, second-room ranks (x ∷ []) room wide))
+  wide-put wide (x ∷ y ∷ slip) room = rw (lt-ltb byteRanks ranks wide)
+
+  pub narrow-put : ranks ≤ byteRanks → (slip : List ℕ) → mapLength ranks ≤ length slip →
+      set slip 0 (mapped % byteValues) ≡ fill (mapWritten ranks mapped) slip
+  unfolding fill mapWritten
+  narrow-put narrow [] room = absurd (omega (arith, first-room ranks [] room))
+  narrow-put narrow (x ∷ slip) room = rw (le-ltb byteRanks ranks narrow)
+
+module _ (ranks : ℕ) (counts : List ℕ) {map needed : ℕ} (is : map ≡ mapOf counts) (long : needed ≡ slipLength ranks map) where
+  needed-is : needed ≡ length (slipFrom ranks counts)
+  needed-is = long ∙ ap (slipLength ranks) is ∙ sym (slip-length ranks counts)
 
   pub slip-short : (slip : List ℕ) → length slip < needed →
-      answering (Refused (record { number = memoryTooShort; place = needed })) slip ≡ lend slip (ok (slipFrom counts))
-  slip-short slip h = lends-nothing slip (slipFrom counts) (sym needed-is) h
+      answering (Refused (record { number = memoryTooShort; place = needed })) slip ≡ lend slip (ok (slipFrom ranks counts))
+  slip-short slip h = lends-nothing slip (slipFrom ranks counts) (sym needed-is) h
 
-  pub slip-room : (slip : List ℕ) → needed ≤ length slip → (first : ℕ) → 1 ≤ length (set slip 0 first)
-  slip-room slip h first = simp length-set (omega (arith, long))
+  -- The map has room, and the counts behind it.
+  module _ (slip : List ℕ) (room : needed ≤ length slip) where
+    pub map-room : mapLength ranks ≤ length slip
+    map-room = omega (arith, long, room)
 
-  pub slip-put : (slip : List ℕ) → needed ≤ length slip → {listed part : List ℕ} {count : ℕ} → listed ≡ fill (countsOf map counts) noCounts →
-      count ≡ ones map → part ≡ wordsWritten (midOf 1 (length (set slip 0 map) - 1) (set slip 0 map)) 0 listed count →
-      answering (Entries needed) (putMid 1 (length (set slip 0 map) - 1) (set slip 0 map) part) ≡ lend slip (ok (slipFrom counts))
-  slip-put [] h listed-is count-is part-is = absurd (omega (arith, long))
-  slip-put (x ∷ rest) h {listed} {part} {count} listed-is count-is part-is =
-      let behind = ap₂ (λ bytes numbers. wordsWritten bytes 0 numbers count) (behind-is map x rest) listed-is in
-      let counted : count ≡ length (countsOf map counts) = count-is ∙ sym (counts-ones map counts (rw is (map-small counts))) in
-      ap (answering (Entries needed))
-      (behind-first map x rest part ∙ whole-put counts is x rest part (omega (arith, long, count-is)) counted (part-is ∙ behind))
-      ∙ lends (x ∷ rest) (slipFrom counts) (sym needed-is) h
+    module _ {behind : ℕ} (behind-is : behind ≡ mapLength ranks) {mapped : List ℕ} (map-put : mapped ≡ fill (mapWritten ranks map) slip) where
+      front : length (mapWritten ranks map) ≡ behind
+      front = written-length ranks map ∙ sym behind-is
+
+      rest : List ℕ
+      rest = drop (length (mapWritten ranks map)) slip
+
+      mapped-is : mapped ≡ mapWritten ranks map ++ rest
+      unfolding fill rest
+      mapped-is = map-put
+
+      mapped-long : length mapped ≡ length slip
+      unfolding rest
+      mapped-long =
+          ap length mapped-is
+          ∙ length-append (mapWritten ranks map) rest
+          ∙ omega (arith, length-drop (length (mapWritten ranks map)) slip, front, behind-is, map-room)
+
+      pub counts-room : behind ≤ length mapped
+      counts-room = omega (arith, mapped-long, behind-is, map-room)
+
+      pub slip-put : {listed part : List ℕ} {count : ℕ} → listed ≡ fill (countsOf map counts) noCounts → count ≡ ones map →
+          part ≡ wordsWritten (midOf behind (length mapped - behind) mapped) 0 listed count →
+          answering (Entries needed) (putMid behind (length mapped - behind) mapped part) ≡ lend slip (ok (slipFrom ranks counts))
+      unfolding slipFrom rest
+      slip-put {listed} {part} {count} listed-is count-is part-written =
+          let counted : count ≡ length (countsOf map counts) = count-is ∙ sym (counts-ones map counts (rw is (map-small counts))) in
+          let enough : length (countsOf map counts) * 2 ≤ length rest =
+          omega (arith, length-drop (length (mapWritten ranks map)) slip, front, behind-is, long, room, counted, count-is) in
+          let numbers = part-written ∙ ap₂ (λ bytes numbers. wordsWritten bytes 0 numbers count)
+          (ap (λ l. midOf behind (length l - behind) l) mapped-is ∙ part-is (mapWritten ranks map) rest front) listed-is in
+          ap (answering (Entries needed))
+          (ap (λ l. putMid behind (length l - behind) l part) mapped-is
+          ∙ part-put (mapWritten ranks map) rest front part
+          ∙ ap (λ l. mapWritten ranks map ++ l)
+          (numbers ∙ group-words-written (countsOf map counts) rest noCounts count counted (omega (arith, enough)))
+          ∙ fill-behind (mapWritten ranks map) (entryBytes (countsOf map counts)) slip
+          ∙ ap (λ m. fill (mapWritten ranks m ++ entryBytes (countsOf m counts)) slip) is)
+          ∙ lends slip (slipFrom ranks counts) (sym needed-is) room

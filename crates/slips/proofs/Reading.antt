@@ -1,24 +1,27 @@
 -- The reader that goes by the map's bits is the definition's, which goes rank by rank.
-use Prim.Native.Nat.{ℕ, zero, suc, _+_, _-_, _^_, _≤_, _<_}
-use mathlib.Core.Path.{_≡_, refl, sym, ap, _∙_}
+use Prim.Native.Nat.{ℕ, zero, suc, _+_, _-_, _^_, _≤_, _<_, zero-le}
+use mathlib.Core.Path.{_≡_, refl, sym, ap, fun-ext, _∙_}
 use mathlib.Core.Bool.{Bool}
 use mathlib.Core.List.{List, [], _∷_, _++_}
 use native.Mathlib.Omega.{arith}
 use lib.Dec.{ltb, eqb}
 use lib.ListN.{length, set, take, replicate, length-append, replicate-append-replicate}
 use lib.Seq.{set-at, take-at, append-snoc}
-use borrow.Author.Tests.{ltb-true}
-use Rattle.model.specs.Limits.{maxRanks}
+use borrow.Author.Tests.{ltb-true, ltb-false, lt-ltb, le-ltb}
+use Rattle.model.specs.Limits.{byteRanks, maxRanks}
 use Rattle.model.specs.Refusals as Refusals
 use Rattle.model.specs.Refusals.{Result, ok, refused, refuse, require, slipForm}
 use Rattle.model.specs.Choice as Choice
 use Rattle.model.specs.Choice.{when, bit, select, numbersFrom}
-use Rattle.model.specs.Bytes.{Found, found, byte, optional, whole}
-use Rattle.model.specs.Slips.{readCounts, slipReader}
-use Rattle.model.proofs.Laws.{decided, between-true}
-use Rattle.model.proofs.Bytes.{Finds, finds-anything, finds-bind, finds-pure, judged-ok, byte-next}
+use Rattle.model.specs.Bytes.{Found, found, byte, word, optional, whole}
+use Rattle.model.specs.Slips.{mapField, readCounts, slipReader}
+use Rattle.model.proofs.Laws.{decided, between-true, true-between, between-false}
+use Rattle.model.proofs.Bytes.{Finds, finds-anything, finds-bind, finds-pure, judged-ok, byte-next, word-next}
 use Rattle.memory.proofs.Filled.{numbers-length}
-use Rattle.rank_counts.specs.Maps.{rowsOf}
+use Rattle.fields.specs.declared.Field.{Field}
+use Rattle.fields.specs.Fields.{fieldOf, judgedField}
+use Rattle.fields.proofs.Fields.{judged-read}
+use Rattle.rank_counts.specs.Maps.{rowsOf, mapLength}
 use Rattle.rank_counts.specs.Counts.{noCounts}
 use Rattle.rank_counts.proofs.Rows.{rows-few}
 use Rattle.slips.specs.Reading.{countReader, readRows, countsBehind, mapReader, countsIn}
@@ -95,15 +98,44 @@ counts-length map (r ∷ ranks) =
     finds-bind (finds-anything (optional (bit (r - 1) map) 0 countReader)) λ count _.
     finds-bind (counts-length map ranks) λ rest e. finds-pure (count ∷ rest) (ap suc e)
 
--- The map's byte: one byte, and no bit above N.
+-- The map: its one byte or two, and no bit above N.
+field-next : (ranks : ℕ) (slip : List ℕ) {f : Found ℕ} → mapField ranks slip 0 ≡ ok f → f .next ≡ mapLength ranks
+unfolding mapField
+field-next ranks slip h =
+    decided (ltb byteRanks ranks)
+    (λ t. rw t (word-next slipForm slip 0 (rw t at h)))
+    (λ t. rw t (byte-next slipForm slip 0 (rw t at h)))
+
+-- No map has a bit above those of the full one.
+full-limit : (full limit : ℕ) → full + 1 ≡ limit → (map : ℕ) → Choice.between 0 full map ≡ ltb map limit
+full-limit full limit is map =
+    decided (ltb map limit)
+    (λ t. true-between 0 full map (record { low = zero-le; high = omega (arith, ltb-true map limit t) }) ∙ sym t)
+    (λ t. between-false 0 full map (λ within. omega (arith, within .high, ltb-false map limit t)) ∙ sym t)
+
+module _ (ranks : ℕ) (slip : List ℕ) {x : Field} where
+  pub word-field : byteRanks < ranks → x ≡ fieldOf (word slipForm slip 0) → x ≡ fieldOf (mapField ranks slip 0)
+  unfolding mapField
+  word-field wide read = rw (lt-ltb byteRanks ranks wide) read
+
+  pub byte-field : ranks ≤ byteRanks → x ≡ fieldOf (byte slipForm slip 0) → x ≡ fieldOf (mapField ranks slip 0)
+  unfolding mapField
+  byte-field narrow read = rw (le-ltb byteRanks ranks narrow) read
+
+  pub map-judged : x ≡ fieldOf (mapField ranks slip 0) → (full : ℕ) → full + 1 ≡ 2 ^ ranks → {y : Field} →
+      y ≡ judgedField (Choice.between 0 full) slipForm 0 x → y ≡ fieldOf (mapReader ranks slip 0)
+  map-judged read full is judged =
+      judged-read (λ map. ltb map (2 ^ ranks)) slipForm (mapField ranks) slip 0 read
+      (judged ∙ ap (λ test. judgedField test slipForm 0 x) (fun-ext (full-limit full (2 ^ ranks) is)))
+
 pub record MapRead (ranks : ℕ) (f : Found ℕ) : Type 0 where
-  pub next : f .next ≡ 1
+  pub next : f .next ≡ mapLength ranks
   pub small : f .value < 2 ^ ranks
 
 pub map-read : (ranks : ℕ) (slip : List ℕ) {f : Found ℕ} → mapReader ranks slip 0 ≡ ok f → MapRead ranks f
 map-read ranks slip {f} h =
-    let (read, test) = judged-ok (λ map. ltb map (2 ^ ranks)) slipForm (byte slipForm) slip 0 h in
-    record { next = byte-next slipForm slip 0 read; small = ltb-true (f .value) (2 ^ ranks) test }
+    let (read, test) = judged-ok (λ map. ltb map (2 ^ ranks)) slipForm (mapField ranks) slip 0 h in
+    record { next = field-next ranks slip read; small = ltb-true (f .value) (2 ^ ranks) test }
 
 -- What is left over once all is read.
 abbrev ended : (slip : List ℕ) → Found (List ℕ) → Result (List ℕ)
@@ -118,11 +150,11 @@ module _ (ranks : ℕ) (few : ranks ≤ maxRanks) (slip : List ℕ) where
   above = replicate (maxRanks - ranks) 0
 
   behind-placed : (map : ℕ) → map < 2 ^ ranks →
-      readRows (rowsOf map) noCounts slip 1 ≡ placed [] above (readCounts map (numbersFrom 1 ranks) slip 1)
+      readRows (rowsOf map) noCounts slip (mapLength ranks) ≡ placed [] above (readCounts map (numbersFrom 1 ranks) slip (mapLength ranks))
   behind-placed map small =
       let e : ranks + (maxRanks - ranks) ≡ maxRanks = omega arith in
       let all : noCounts ≡ replicate ranks 0 ++ above = sym (replicate-append-replicate ranks (maxRanks - ranks) 0 ∙ ap (λ n. replicate n 0) e) in
-      rw (rows-few map ranks few small, all) (rows-read map slip ranks 0 [] above 1 refl)
+      rw (rows-few map ranks few small, all) (rows-read map slip ranks 0 [] above (mapLength ranks) refl)
 
   ended-first : (m : Result (Found (List ℕ))) → ((f : Found (List ℕ)) → m ≡ ok f → length (f .value) ≡ ranks) →
       firstOf ranks (Refusals._>>=_ (placed [] above m) (ended slip)) ≡ Refusals._>>=_ m (ended slip)
@@ -131,19 +163,19 @@ module _ (ranks : ℕ) (few : ranks ≤ maxRanks) (slip : List ℕ) where
   ended-first (refused r) long = refl
 
   behind-read : (map : ℕ) → map < 2 ^ ranks →
-      firstOf ranks (countsBehind map slip) ≡ Refusals._>>=_ (readCounts map (numbersFrom 1 ranks) slip 1) (ended slip)
+      firstOf ranks (countsBehind ranks map slip) ≡ Refusals._>>=_ (readCounts map (numbersFrom 1 ranks) slip (mapLength ranks)) (ended slip)
   unfolding countsBehind
   behind-read map small =
       rw (behind-placed map small)
-      (ended-first (readCounts map (numbersFrom 1 ranks) slip 1)
-      (λ f h. counts-length map (numbersFrom 1 ranks) .holds 1 f h ∙ numbers-length 1 ranks))
+      (ended-first (readCounts map (numbersFrom 1 ranks) slip (mapLength ranks))
+      (λ f h. counts-length map (numbersFrom 1 ranks) .holds (mapLength ranks) f h ∙ numbers-length 1 ranks))
 
-  map-first : firstOf ranks (Refusals._>>=_ (mapReader ranks slip 0) (λ f. countsBehind (f .value) slip)) ≡ whole slipForm (slipReader ranks) slip
+  map-first : firstOf ranks (Refusals._>>=_ (mapReader ranks slip 0) (λ f. countsBehind ranks (f .value) slip)) ≡ whole slipForm (slipReader ranks) slip
   unfolding whole slipReader
   map-first = go (mapReader ranks slip 0) (λ f h. map-read ranks slip h)
     where
       go : (m : Result (Found ℕ)) → ((f : Found ℕ) → m ≡ ok f → MapRead ranks f) →
-          firstOf ranks (Refusals._>>=_ m (λ f. countsBehind (f .value) slip))
+          firstOf ranks (Refusals._>>=_ m (λ f. countsBehind ranks (f .value) slip))
           ≡ Refusals._>>=_ (Refusals._>>=_ m (λ f. readCounts (f .value) (numbersFrom 1 ranks) slip (f .next))) (ended slip)
       go (ok f) is = let read = is f refl in rw (read .next) (behind-read (f .value) (read .small))
       go (refused r) is = refl

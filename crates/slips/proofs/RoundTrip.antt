@@ -3,7 +3,7 @@
 -- From a place on, the bytes of the counts are read back, rank by rank: a rank's bit stands exactly if it has a count. The other way round, whatever
 -- is read was written so: each number that is read stands in two bytes, and the map is the one with the bits that were met.
 use Prim.Native.Nat.{ℕ, zero, suc, _+_, _-_, _/_, _%_, _^_, _≤_, _<_, zero-le}
-use mathlib.Core.Path.{_≡_, sym, ap, ap₂, _∙_}
+use mathlib.Core.Path.{_≡_, refl, sym, ap, ap₂, _∙_}
 use mathlib.Core.Bool.{Bool, true, false}
 use mathlib.Core.List.{List, [], _∷_, _++_, map, append-nil, append-assoc}
 use native.Mathlib.Nat.{add-zero, le-refl}
@@ -12,15 +12,16 @@ use lib.Dec.{ltb, eqb}
 use lib.ListN.{length, getD, drop}
 use lib.Seq.{drop-length}
 use borrow.Author.Tests.{eqb-true, eqb-false, eq-eqb, ltb-true, ltb-false, lt-ltb}
-use Rattle.model.specs.Limits.{maxItems, byteValues}
+use Rattle.model.specs.Limits.{byteRanks, maxItems, byteValues}
 use Rattle.model.specs.Refusals as Refusals
 use Rattle.model.specs.Refusals.{Result, ok, slipForm}
 use Rattle.model.specs.Choice.{when, bit, between, numbersFrom}
 use Rattle.model.specs.Bytes.{AreBytes, Found, found, byte, word, wordBytes, judged, optional, whole}
-use Rattle.model.specs.Slips.{countBytes, readCounts, slipReader}
+use Rattle.model.specs.Slips.{mapBytes, mapField, countBytes, readCounts, slipReader}
 use Rattle.model.proofs.Laws.{decided, bind-ok, ok-injective, true-between, between-true}
 use Rattle.model.proofs.Bytes.{judged-ok, whole-ok}
 use Rattle.memory.proofs.Filled.{list-of}
+use Rattle.rank_counts.specs.Maps.{mapLength}
 use Rattle.rank_counts.specs.Counts.{countFor}
 use Rattle.rank_counts.proofs.RankMaps.{held, mapTo, map-fits, map-bit, map-is}
 use Rattle.slips.specs.Reading.{countReader, mapReader}
@@ -30,7 +31,7 @@ use Rattle.slips.proofs.Answering.{whole-length}
 
 -- The slip of the ranks up to N.
 abbrev pub slipUpTo : (f : ℕ → ℕ) → (ranks : ℕ) → List ℕ
-slipUpTo f ranks = mapTo f ranks ∷ countBytes f (numbersFrom 1 ranks)
+slipUpTo f ranks = mapBytes ranks (mapTo f ranks) ++ countBytes f (numbersFrom 1 ranks)
 
 -- A number of the right size that stands in two bytes is read as a count.
 count-read : (bytes : List ℕ) (at n : ℕ) {more : List ℕ} → 1 ≤ n → n ≤ maxItems → drop at bytes ≡ n / byteValues ∷ n % byteValues ∷ more →
@@ -64,20 +65,37 @@ module _ (f : ℕ → ℕ) (few : (rank : ℕ) → f rank ≤ maxItems) (bytes :
       let none : f (1 + first) ≡ 0 = let z = ltb-false 0 (f (1 + first)) t in omega (arith, z) in
       rw (back, here ∙ t, t, next, counts-read count (first + 1) at more others stands, none))
 
--- What is written is read back.
-first-read : (ranks first : ℕ) (rest : List ℕ) → first < 2 ^ ranks → mapReader ranks (first ∷ rest) 0 ≡ found first 1
-unfolding byte judged
-first-read ranks first rest small = rw (lt-ltb 0 (suc (length rest)) (omega arith), lt-ltb first (2 ^ ranks) small)
+-- What is written is read back, first the map in its one byte or two.
+module _ (ranks mapped : ℕ) (rest : List ℕ) where
+  map-found : mapField ranks (mapBytes ranks mapped ++ rest) 0 ≡ found mapped (mapLength ranks)
+  unfolding mapField mapBytes byte
+  map-found =
+      decided (ltb byteRanks ranks)
+      (λ t. rw t (word-read slipForm (wordBytes mapped ++ rest) 0 mapped refl))
+      (λ t. rw (t, lt-ltb 0 (suc (length rest)) (omega arith)))
+
+  first-read : mapped < 2 ^ ranks → mapReader ranks (mapBytes ranks mapped ++ rest) 0 ≡ found mapped (mapLength ranks)
+  unfolding judged
+  first-read small = rw (map-found, lt-ltb mapped (2 ^ ranks) small)
+
+  behind-map : drop (mapLength ranks) (mapBytes ranks mapped ++ rest) ≡ rest
+  unfolding mapBytes
+  behind-map = decided (ltb byteRanks ranks) (λ t. rw t) (λ t. rw t)
+
+  slip-end : mapLength ranks + length rest ≡ length (mapBytes ranks mapped ++ rest)
+  unfolding mapBytes
+  slip-end = decided (ltb byteRanks ranks) (λ t. rw t (omega arith)) (λ t. rw t (omega arith))
 
 pub slip-reads : (f : ℕ → ℕ) → ((rank : ℕ) → f rank ≤ maxItems) → (ranks : ℕ) →
     whole slipForm (slipReader ranks) (slipUpTo f ranks) ≡ ok (map f (numbersFrom 1 ranks))
 unfolding whole slipReader
 slip-reads f few ranks =
     let slip = slipUpTo f ranks in
-    let behind = sym (append-nil (countBytes f (numbersFrom 1 ranks))) in
-    let read = counts-read f few slip (mapTo f ranks) ranks 0 1 [] (λ row low high. map-bit f ranks row (omega arith)) behind in
-    let end : 1 + length (countBytes f (numbersFrom 1 ranks)) ≡ length slip = omega arith in
-    rw (first-read ranks (mapTo f ranks) (countBytes f (numbersFrom 1 ranks)) (map-fits f ranks), read, eq-eqb _ _ end)
+    let mapped = mapTo f ranks in
+    let counts = countBytes f (numbersFrom 1 ranks) in
+    let behind = behind-map ranks mapped counts ∙ sym (append-nil counts) in
+    let read = counts-read f few slip mapped ranks 0 (mapLength ranks) [] (λ row low high. map-bit f ranks row (omega arith)) behind in
+    rw (first-read ranks mapped counts (map-fits f ranks), read, eq-eqb _ _ (slip-end ranks mapped counts))
 
 -- A rank's count that was read, and where it stands: it is there exactly if the bit stands.
 abbrev countPart : (count : ℕ) → List ℕ
@@ -155,6 +173,15 @@ module _ (f : ℕ → ℕ) (bytes : List ℕ) (bound : AreBytes bytes) (mapped :
       (rw (back, shift) at h) in
       one-told (count-told bytes at bound (bit first mapped) (p .first)) (p .value) (counts-told count (first + 1) (p .g .next) next (p .rest))
 
+-- A map that was read stands in its one byte or two.
+map-stands : (ranks : ℕ) (slip : List ℕ) {m : Found ℕ} → AreBytes slip → mapField ranks slip 0 ≡ ok m →
+    slip ≡ mapBytes ranks (m .value) ++ drop (m .next) slip
+unfolding mapField mapBytes
+map-stands ranks slip bound h =
+    decided (ltb byteRanks ranks)
+    (λ t. rw t (word-stands slipForm slip 0 bound (rw t at h)))
+    (λ t. rw t (byte-stands slipForm slip 0 (rw t at h) .stands))
+
 -- The bytes that are read as these counts.
 listed-counts : (l : List ℕ) (ranks : ℕ) → length l ≡ ranks → l ≡ map (countFor l) (numbersFrom 1 ranks)
 listed-counts l ranks long =
@@ -168,12 +195,12 @@ slip-told ranks slip {l} bound h =
     let is = map-read ranks slip first in
     let listed = listed-counts l ranks (whole-length ranks slip h) in
     let read = rest ∙ ap (λ counts. found counts (length slip)) listed in
-    let told = counts-told (countFor l) slip bound (m .value) ranks 0 1 (length slip) (rw (is .next) at read) in
+    let told = counts-told (countFor l) slip bound (m .value) ranks 0 (mapLength ranks) (length slip) (rw (is .next) at read) in
     let same : (row : ℕ) → row < ranks → bit row (m .value) ≡ held (countFor l) row = λ row below. told .bits row zero-le (omega arith) in
     let mapped : mapTo (countFor l) ranks ≡ m .value = map-is (countFor l) ranks (m .value) (is .small) same in
-    let (read-first, _) = judged-ok (λ b. ltb b (2 ^ ranks)) slipForm (byte slipForm) slip 0 first in
-    byte-stands slipForm slip 0 read-first .stands
-    ∙ ap₂ {C = List ℕ} (λ x l. x ∷ l) (sym mapped)
+    let (read-first, _) = judged-ok (λ b. ltb b (2 ^ ranks)) slipForm (mapField ranks) slip 0 first in
+    map-stands ranks slip bound read-first
+    ∙ ap₂ (λ x l. mapBytes ranks x ++ l) (sym mapped)
     (ap (λ n. drop n slip) (is .next)
     ∙ told .stands
     ∙ ap (λ l′. countBytes (countFor l) (numbersFrom 1 ranks) ++ l′) (drop-length slip)

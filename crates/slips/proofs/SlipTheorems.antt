@@ -16,7 +16,7 @@ use Rattle.model.specs.Choice.{between, numbersFrom}
 use Rattle.model.specs.Bytes.{AreBytes, whole}
 use Rattle.model.specs.Machine.{Start, zeroStart}
 use Rattle.model.specs.Checks.{Accepted, accept, fill}
-use Rattle.model.specs.Slips.{Lent, lend, slipOf, writeSlipIn, writeSlip, slipReader, readSlip}
+use Rattle.model.specs.Slips.{Lent, lend, slipOf, writeSlipIn, writeSlip, slipReader, readSlipIn, readSlip}
 use Rattle.model.proofs.Laws.{decided, required, ok-injective, true-between}
 use Rattle.memory.proofs.Filled.{numbers-length}
 use Rattle.record_facts.specs.Facts.{countOf}
@@ -67,7 +67,7 @@ module _ (start : Start) (program recorded : List ℕ) (a : Accepted) (accepted 
   -- The slip of an accepted record is read for its N as its ranks' counts.
   pub read-back : (counts : List ℕ) → ranks ≤ length counts →
       readSlip ranks (slipOf a) counts ≡ answering (Filled.Entries ranks) (fill (commandCounts a) counts)
-  unfolding readSlip slipOf
+  unfolding readSlipIn slipOf
   read-back counts room =
       let fits = accepted-bounds start program recorded a accepted .header in
       let inside = true-between 1 maxRanks ranks (record { low = fits .ranksLow; high = fits .ranksFit }) in
@@ -90,7 +90,7 @@ written-read-back program recorded memory a accepted {n} h counts room =
 -- Two byte strings that are read alike, and not refused, are one.
 pub read-once : (ranks : ℕ) (slip other counts : List ℕ) {n : ℕ} → AreBytes slip → AreBytes other →
     readSlip ranks slip counts .answer ≡ Filled.Entries n → readSlip ranks slip counts ≡ readSlip ranks other counts → slip ≡ other
-unfolding readSlip
+unfolding readSlipIn
 read-once ranks slip other counts bound bound′ h same =
     let one = filling counts (right slip) h in
     let two = filling counts (right other) (ap (λ (l : Lent). l .answer) (sym same) ∙ h) in

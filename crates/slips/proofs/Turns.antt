@@ -20,7 +20,7 @@ use Rattle.fields.specs.declared.Field.{Field}
 use Rattle.fields.specs.declared.Field.the-variants as Field
 use Rattle.fields.specs.Fields.{fieldOf, fieldRefusal}
 use Rattle.fields.proofs.Fields.{field-told}
-use Rattle.rank_counts.specs.Maps.{rowsOf, lowestRow, slipLength}
+use Rattle.rank_counts.specs.Maps.{rowsOf, lowestRow, mapLength, slipLength}
 use Rattle.rank_counts.specs.Counts.{noCounts}
 use Rattle.rank_counts.proofs.Rows.{rows-none, row-fits, rows-next, rows-ones}
 use Rattle.slips.specs.declared.reader.SlipRead.{SlipRead}
@@ -37,16 +37,16 @@ rows-place (row ∷ rows) counts slip at h =
     let (two, passed) = judged-ok (between 1 maxItems) slipForm (word slipForm) slip at read in
     omega (arith, rows-place rows (set counts row (g .value)) slip (g .next) rest, word-next slipForm slip at two)
 
-module _ (slip : List ℕ) (map : ℕ) where
+module _ (slip : List ℕ) (ranks map : ℕ) where
   abbrev all : Result (Found (List ℕ))
-  all = readRows (rowsOf map) noCounts slip 1
+  all = readRows (rowsOf map) noCounts slip (mapLength ranks)
 
   -- The rows that are left, from a place on, with the counts so far.
   pub record Turn (counts : List ℕ) (at rest : ℕ) : Type 0 where
     pub small : rest < 2 ^ maxRanks
     pub whole : all ≡ readRows (rowsOf rest) counts slip at
 
-  pub turn-first : map < 2 ^ maxRanks → Turn noCounts 1 map
+  pub turn-first : map < 2 ^ maxRanks → Turn noCounts (mapLength ranks) map
   turn-first small = record { small = small; whole = refl }
 
   module _ {counts : List ℕ} {at rest : ℕ} (so-far : Turn counts at rest) (more : ¬ (rest ≡ 0)) where
@@ -62,10 +62,10 @@ module _ (slip : List ℕ) (map : ℕ) where
     one-read = so-far .whole ∙ rw (rows-next rest some)
 
     module _ {x : Field} (read : x ≡ fieldOf (countReader slip at)) where
-      pub turn-refused : (ranks : ℕ) {r s : Refusal} → x ≡ Field.Refused r → s ≡ fieldRefusal x → {k : SlipRead} →
-          k ≡ readAs 0 (refused s) → k ≡ readAs ranks (countsBehind map slip)
+      pub turn-refused : {r s : Refusal} → x ≡ Field.Refused r → s ≡ fieldRefusal x → {k : SlipRead} →
+          k ≡ readAs 0 (refused s) → k ≡ readAs ranks (countsBehind ranks map slip)
       unfolding countsBehind
-      turn-refused ranks is told e =
+      turn-refused is told e =
           rw (one-read, field-told (countReader slip at) read is) (e ∙ ap (λ s. readAs 0 (refused s)) (told ∙ ap fieldRefusal is))
 
       pub turn-next : {count next : ℕ} → x ≡ Field.Read count next → (row : ℕ) → row ≡ lowestRow rest →
@@ -78,20 +78,20 @@ module _ (slip : List ℕ) (map : ℕ) where
 
   -- All are read, and the place is where the slip has to end.
   module _ (fits : map < 2 ^ maxRanks) {counts : List ℕ} {at rest : ℕ} (so-far : Turn counts at rest) (none : rest ≡ 0) {end : ℕ}
-      (is : end ≡ slipLength map) (ranks : ℕ) where
+      (is : end ≡ slipLength ranks map) where
     all-read : all ≡ found counts at
     unfolding readRows
     all-read = so-far .whole ∙ rw (none, rows-none)
 
     ends : at ≡ end
-    ends = rows-place (rowsOf map) noCounts slip 1 all-read ∙ ap (λ n. 1 + 2 * n) (sym (rows-ones map fits)) ∙ sym is
+    ends = rows-place (rowsOf map) noCounts slip (mapLength ranks) all-read ∙ ap (λ n. mapLength ranks + 2 * n) (sym (rows-ones map fits)) ∙ sym is
 
     pub turn-left : ¬ (end ≡ length slip) → {k : SlipRead} → k ≡ readAs 0 (refused (record { number = slipForm; place = end })) →
-        k ≡ readAs ranks (countsBehind map slip)
+        k ≡ readAs ranks (countsBehind ranks map slip)
     unfolding countsBehind
     turn-left other e = e ∙ rw (all-read, ends, ne-eqb end (length slip) other)
 
-    pub turn-last : end ≡ length slip → readAs ranks (ok counts) ≡ readAs ranks (countsBehind map slip)
+    pub turn-last : end ≡ length slip → readAs ranks (ok counts) ≡ readAs ranks (countsBehind ranks map slip)
     unfolding countsBehind
     turn-last same = rw (all-read, ends, eq-eqb end (length slip) same)
 
@@ -111,11 +111,6 @@ module _ (ranks : ℕ) (slip : List ℕ) where
         (e ∙ ap (λ s. readAs 0 (refused s)) (told ∙ ap fieldRefusal is))
 
     module _ {map next : ℕ} (is : x ≡ Field.Read map next) where
-      pub map-byte : map < 2 ^ maxRanks
-      map-byte =
-          let small = map-read ranks slip (field-told (mapReader ranks slip 0) read is) .small in
-          omega (arith, small, pow-mono (inside .high))
-
-      pub map-found : {k : SlipRead} → k ≡ readAs ranks (countsBehind map slip) → k ≡ readAs ranks (countsIn ranks slip)
+      pub map-found : {k : SlipRead} → k ≡ readAs ranks (countsBehind ranks map slip) → k ≡ readAs ranks (countsIn ranks slip)
       unfolding countsIn
       map-found e = rw (true-between 1 maxRanks ranks inside, field-told (mapReader ranks slip 0) read is) e

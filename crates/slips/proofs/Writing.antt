@@ -2,31 +2,32 @@
 -- the ranks above N have no count.
 use Prim.Native.Nat.{ℕ, zero, suc, _+_, _-_, _/_, _%_, _^_, _≤_, _<_}
 use mathlib.Core.Path.{_≡_, refl, sym, ap, ap₂, _∙_}
-use mathlib.Core.List.{List, _∷_, map}
+use mathlib.Core.List.{List, [], _∷_, _++_, map}
+use native.Mathlib.Nat.{mod-eq-of-lt}
 use native.Mathlib.Omega.{arith}
 use lib.Dec.{ltb}
-use lib.ListN.{length, getD}
+use lib.ListN.{length, getD, length-append}
 use lib.Pow.{pow-mono}
 use borrow.Author.Tests.{ltb-true, ltb-false}
-use Rattle.model.specs.Limits.{maxRanks, byteValues}
+use Rattle.model.specs.Limits.{byteRanks, maxRanks, byteValues}
 use Rattle.model.specs.Choice.{select, numbersFrom}
 use Rattle.model.specs.Checks.{Accepted, accept, entryBytes}
 use Rattle.model.specs.Machine.{Start}
 use Rattle.model.specs.Refusals.{ok}
-use Rattle.model.specs.Slips.{countBytes, slipOf}
+use Rattle.model.specs.Slips.{mapBytes, countBytes, slipOf}
 use Rattle.model.proofs.Laws.{decided}
 use Rattle.record_facts.proofs.Bounds.{accepted-bounds}
 use Rattle.memory.specs.Copies.{byRank}
 use Rattle.memory.proofs.Filled.{numbers-at}
 use Rattle.bitmap.proofs.Bits.{bit-beyond}
 use Rattle.lists.proofs.Pasted.{entry-length}
-use Rattle.rank_counts.specs.Maps.{rowsOf, slipLength}
+use Rattle.rank_counts.specs.Maps.{rowsOf, mapLength, slipLength}
 use Rattle.rank_counts.specs.Counts.{countFor, mapOf, countsOf}
 use Rattle.rank_counts.proofs.Numbers.{numbers-same, numbers-mapped}
 use Rattle.rank_counts.proofs.RankMaps.{held, mapTo, map-fits, map-bit, map-is}
 use Rattle.rank_counts.proofs.Rows.{rows-few}
 use Rattle.rank_counts.proofs.Mapping.{map-small, counts-ones}
-use Rattle.slips.specs.Writing.{slipFrom}
+use Rattle.slips.specs.Writing.{mapWritten, slipFrom}
 use Rattle.slips.proofs.Commands.{commands-none}
 
 -- The bytes of the counts, rank by rank, are those of the rows that have one.
@@ -46,6 +47,16 @@ pub map-rows : (f : ℕ → ℕ) (ranks : ℕ) → ranks ≤ maxRanks → rowsOf
 map-rows f ranks few =
     rows-few (mapTo f ranks) ranks few (map-fits f ranks)
     ∙ numbers-same _ (held f) 0 ranks (λ row low high. map-bit f ranks row (omega arith))
+
+-- A map of N ranks is written whole, also where it is one byte.
+map-written : (ranks mapped : ℕ) → mapped < 2 ^ ranks → mapBytes ranks mapped ≡ mapWritten ranks mapped
+unfolding mapBytes mapWritten
+map-written ranks mapped small =
+    decided (ltb byteRanks ranks)
+    (λ t. rw t)
+    (λ t.
+    let byte : mapped < byteValues = omega (arith, small, pow-mono (ltb-false byteRanks ranks t)) in
+    rw t (ap {B = List ℕ} (λ n. n ∷ []) (sym (mod-eq-of-lt byte))))
 
 -- Counts of all ranks that there may be, of which those above N have none.
 module _ (f : ℕ → ℕ) (counts : List ℕ) (ranks : ℕ) (few : ranks ≤ maxRanks)
@@ -72,12 +83,14 @@ module _ (f : ℕ → ℕ) (counts : List ℕ) (ranks : ℕ) (few : ranks ≤ ma
       rw (map-whole, map-rows f ranks few)
       (numbers-mapped (λ row. getD counts row 0) (λ row. f (1 + row)) (held f) 0 ranks (λ row low high. same row (omega arith)))
 
-  pub slip-whole : mapTo f ranks ∷ countBytes f (numbersFrom 1 ranks) ≡ slipFrom counts
+  pub slip-whole : mapBytes ranks (mapTo f ranks) ++ countBytes f (numbersFrom 1 ranks) ≡ slipFrom ranks counts
   unfolding slipFrom
-  slip-whole = ap₂ _∷_ (sym map-whole) (count-bytes f 0 ranks ∙ ap entryBytes (sym counts-listed))
+  slip-whole =
+      ap₂ _++_ (map-written ranks (mapTo f ranks) (map-fits f ranks) ∙ ap (mapWritten ranks) (sym map-whole))
+      (count-bytes f 0 ranks ∙ ap entryBytes (sym counts-listed))
 
 pub slip-accepted : (start : Start) (program recorded : List ℕ) (a : Accepted) → accept start program recorded ≡ ok a → (counts : List ℕ) →
-    counts ≡ byRank (a .run .last .taken) → slipOf a ≡ slipFrom counts
+    counts ≡ byRank (a .run .last .taken) → slipOf a ≡ slipFrom (a .program .header .ranks) counts
 unfolding slipOf
 slip-accepted start program recorded a accepted counts is =
     slip-whole (a .run .last .taken) counts (a .program .header .ranks) (accepted-bounds start program recorded a accepted .header .ranksFit)
@@ -85,6 +98,17 @@ slip-accepted start program recorded a accepted counts is =
     (commands-none start program recorded a accepted)
 
 -- It has as many bytes as the map asks for.
-pub slip-length : (counts : List ℕ) → length (slipFrom counts) ≡ slipLength (mapOf counts)
+pub written-length : (ranks mapped : ℕ) → length (mapWritten ranks mapped) ≡ mapLength ranks
+unfolding mapWritten
+written-length ranks mapped = decided (ltb byteRanks ranks) (λ t. rw t) (λ t. rw t)
+
+pub slip-length : (ranks : ℕ) (counts : List ℕ) → length (slipFrom ranks counts) ≡ slipLength ranks (mapOf counts)
 unfolding slipFrom
-slip-length counts = omega (arith, entry-length (countsOf (mapOf counts) counts), counts-ones (mapOf counts) counts (map-small counts))
+slip-length ranks counts =
+    omega (
+      arith,
+      length-append (mapWritten ranks (mapOf counts)) (entryBytes (countsOf (mapOf counts) counts)),
+      written-length ranks (mapOf counts),
+      entry-length (countsOf (mapOf counts) counts),
+      counts-ones (mapOf counts) counts (map-small counts),
+    )

@@ -16,7 +16,7 @@ returns-2 c =
     let atCounts = atWritten .before .before .before in
     let atFound = atCounts .before .before .before in
     let atReplay = atFound .before .before in
-    written-accepted _ _ (atReplay .replay .ensures) _ (atFound .items .given .1) _ (atCounts .command-counts .ensures)
+    written-accepted _ _ (atReplay .replay .ensures) _ (atFound .header .given .1) _ (atCounts .command-counts .ensures)
     (atWritten .write-counts .ensures)
 
 pub write-slip-spec : {M : Type 1} → statement M

@@ -9,7 +9,7 @@ use Rattle.slips.proofs.reader.counts_behind.Statement.{statement}
 use Rattle.slips.proofs.reader.counts_behind.Tie as tie
 
 abbrev Inv-loop : tie.InvT-loop
-Inv-loop slip map ranks counts₀ at₀ rest₀ counts at rest = Turn slip map counts at rest
+Inv-loop slip map ranks counts₀ at₀ rest₀ counts at rest = Turn slip ranks map counts at rest
 
 abbrev μ-loop : tie.MeasureT-loop
 μ-loop slip map ranks counts₀ at₀ rest₀ counts at rest = rest
@@ -19,7 +19,7 @@ returns c =
     let atTold = c .before .before in
     let atRead = atTold .before .before in
     let atTurn = atRead .before in
-    turn-refused _ _ (atTurn .before .loop .inv) (atTurn .loop-test .taken) (atRead .read-count .ensures) _ (atTold .enum-told .given .1)
+    turn-refused _ _ _ (atTurn .before .loop .inv) (atTurn .loop-test .taken) (atRead .read-count .ensures) (atTold .enum-told .given .1)
     (c .before .refusal .ensures) (c .refused .ensures)
 
 -- The turn in which a count was read.
@@ -29,26 +29,26 @@ atCount c = c .before .before .before .before
 row-there : (c : tie.After-lowest-row Inv-loop μ-loop) → c .lowest-row .result < maxRanks
 row-there c =
     let atTurn = atCount c .before in
-    rw (c .lowest-row .ensures) (turn-row _ _ (atTurn .before .loop .inv) (atTurn .loop-test .taken))
+    rw (c .lowest-row .ensures) (turn-row _ _ _ (atTurn .before .loop .inv) (atTurn .loop-test .taken))
 
 loop-again : tie.Need-loop-again Inv-loop μ-loop
 loop-again c =
     let atTurn = atCount c .before in
-    turn-next _ _ (atTurn .before .loop .inv) (atTurn .loop-test .taken) (atCount c .read-count .ensures) (c .before .before .read .given .1)
+    turn-next _ _ _ (atTurn .before .loop .inv) (atTurn .loop-test .taken) (atCount c .read-count .ensures) (c .before .before .read .given .1)
     _ (c .lowest-row .ensures)
 
 returns-2 : tie.Need-returns-2 Inv-loop μ-loop
 returns-2 c =
     let atEnd = c .before .before in
     let atLoop = atEnd .before in
-    turn-left _ _ (search needs) (atLoop .before .loop .inv) (omega (arith, atLoop .loop-test .left)) (atEnd .slip-length .ensures) _
+    turn-left _ _ _ (search needs) (atLoop .before .loop .inv) (omega (arith, atLoop .loop-test .left)) (atEnd .slip-length .ensures)
     (c .before .if1 .taken) (c .refused2 .ensures)
 
 returns-3 : tie.Need-returns-3 Inv-loop μ-loop
 returns-3 c =
     let atEnd = c .before in
     let atLoop = atEnd .before in
-    turn-last _ _ (search needs) (atLoop .before .loop .inv) (omega (arith, atLoop .loop-test .left)) (atEnd .slip-length .ensures) _
+    turn-last _ _ _ (search needs) (atLoop .before .loop .inv) (omega (arith, atLoop .loop-test .left)) (atEnd .slip-length .ensures)
     (omega (arith, c .if1 .left))
 
 pub counts-behind-spec : {M : Type 1} → statement M
@@ -57,7 +57,8 @@ counts-behind-spec =
     (tie.spec
     Inv-loop
     μ-loop
-    (λ c. turn-first _ _ (search needs))
+    (λ c κs. search needs)
+    (λ c. rw (c .map-length .ensures) (turn-first _ _ _ (search needs)))
     (λ c κs. search needs)
     (λ c. search needs)
     (λ c. search needs)

@@ -5,7 +5,7 @@ use borrow.Author.Needs.{needs}
 use borrow.Author.Tests.{ltb-true, ltb-false}
 use Rattle.model.specs.Limits.{maxRanks}
 use Rattle.model.proofs.Laws.{Within}
-use Rattle.slips.proofs.Turns.{ranks-refused, map-refused, map-byte, map-found}
+use Rattle.slips.proofs.Turns.{ranks-refused, map-refused, map-found}
 use Rattle.slips.proofs.reader.counts_in.Statement.{statement}
 use Rattle.slips.proofs.reader.counts_in.Tie as tie
 
@@ -31,12 +31,6 @@ returns-2 c =
     map-refused _ _ (ranks-inside (atRead .before)) (atRead .read-map .ensures) (atTold .enum-told .given .1) (c .before .refusal .ensures)
     (c .refused2 .ensures)
 
-cast-counts-behind : tie.Need-cast-counts-behind
-cast-counts-behind c =
-    let atRead = c .before .before .before in
-    let small = map-byte _ _ (ranks-inside (atRead .before)) (atRead .read-map .ensures) (c .before .read .given .1) in
-    omega (arith, small)
-
 returns-3 : tie.Need-returns-3
 returns-3 c =
     let atFound = c .before .before in
@@ -55,6 +49,5 @@ counts-in-spec =
     (λ c κs. search needs)
     (λ c κs. search needs)
     returns-2
-    cast-counts-behind
     (λ c κs. search needs)
     returns-3)
