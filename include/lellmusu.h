@@ -65,15 +65,15 @@ enum {
 };
 
 /* Lengths in bytes that are enough for every program and record: an entry for each of 1,024 items,
- * and one for each of the 64 cells of 8 ranks. */
+ * and one for each of the 64 cells of 16 ranks. */
 #define LELLMUSU_ORDER_BYTES (2 * 1024)
-#define LELLMUSU_CELLS_BYTES (2 * 8 * 64)
+#define LELLMUSU_CELLS_BYTES (2 * 16 * 64)
 
-/* Likewise for a slip, its map and a count for each of 8 ranks; for the counts of a slip, in
+/* Likewise for a slip, its map and a count for each of 16 ranks; for the counts of a slip, in
  * entries; and for the text of a listing. */
-#define LELLMUSU_SLIP_BYTES (1 + 2 * 8)
-#define LELLMUSU_COUNTS 8
-#define LELLMUSU_LISTING_BYTES 33803
+#define LELLMUSU_SLIP_BYTES (2 + 2 * 16)
+#define LELLMUSU_COUNTS 16
+#define LELLMUSU_LISTING_BYTES 44043
 
 /*
  * Checks the record of a run of the program.
@@ -94,8 +94,8 @@ uint8_t lellmusu_check(const uint8_t *program, size_t program_length, const uint
                        size_t cells_length, size_t *value);
 
 /*
- * Writes the slip of a run: a byte map of the ranks that have a command item, then for each of them
- * a two-byte count of those items. Program and record are refused as lellmusu_check refuses them,
+ * Writes the slip of a run: a map of the ranks that have a command item, in two bytes for a program
+ * of more than 8 ranks and in one for others, then for each of them a two-byte count of those items. Program and record are refused as lellmusu_check refuses them,
  * by 1 to 13; then a memory that is too short, by 15 with the bytes needed.
  *
  *   slip     gets the slip's bytes, from its first byte on

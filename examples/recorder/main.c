@@ -73,7 +73,7 @@ static void print_usage(void)
 {
     fprintf(stderr,
             "usage: recorder RANKS [--delay] [--rounds K] [--save DIR]\n"
-            "  RANKS     2 to 8\n"
+            "  RANKS     2 to 16\n"
             "  --delay   transfers land late\n"
             "  --rounds  how often each rank goes through the program, 1 to %d / RANKS\n"
             "  --save    writes run.prg and run.rec into this folder\n",

@@ -7,7 +7,7 @@
 #include <stdint.h>
 
 /* How many ranks the program may have; a lone one has no neighbour. */
-enum { FEWEST_RANKS = 2, MOST_RANKS = 8 };
+enum { FEWEST_RANKS = 2, MOST_RANKS = 16 };
 
 /* The cells of each rank: its own number, and the number that it gets. */
 enum { OWN_CELL, RECEIVED_CELL, CELLS };
