@@ -3,7 +3,7 @@
 
 use crate::corpus::{to_hex, CheckCase, Expected, SlipCase};
 use crate::harness::{inner, lent, Entry, GUARD};
-use crate::limits::{number, Refusal};
+use crate::limits::{number, Refusal, MAX_RANKS};
 use crate::listing::{write_listing, Said};
 use crate::slip::{read_slip, write_slip};
 use std::collections::{BTreeMap, BTreeSet};
@@ -325,7 +325,7 @@ pub fn compare_slip_reader(
     case: &SlipCase,
     tally: &mut Tally,
 ) -> Result<(), String> {
-    let mut lengths = lengths(case.ranks.min(8));
+    let mut lengths = lengths(case.ranks.min(MAX_RANKS));
     lengths.insert(case.counts_entries);
     for entries in lengths {
         compare_counts(subject, case, entries, tally)?;
@@ -358,7 +358,9 @@ fn compare_counts(
 }
 
 /// Every N there is, those on both sides, and others that one byte holds.
-const ALL_RANKS: [usize; 15] = [0, 1, 2, 3, 4, 5, 6, 7, 8, 9, 16, 64, 128, 129, 255];
+const ALL_RANKS: [usize; 22] = [
+    0, 1, 2, 3, 4, 5, 6, 7, 8, 9, 10, 11, 12, 13, 14, 15, 16, 17, 64, 128, 129, 255,
+];
 
 /// Compares a slip reader with the second program's on one slip, whatever N it is given.
 pub fn compare_all_ranks(subject: &Extras, slip: &[u8], tally: &mut Tally) -> Result<(), String> {

@@ -1,7 +1,9 @@
-//! The limits of document 01 and of document 02's #107, and what a refusal is.
+//! The limits of document 01 and of document 02's #105 and #107, and what a refusal is.
 
 /// The largest N; ranks run from 1 to N.
-pub const MAX_RANKS: usize = 8;
+pub const MAX_RANKS: usize = 16;
+/// The largest N whose slips have a map of one byte; before #105 it was the largest N.
+pub const MAX_SHORT_MAP_RANKS: usize = 8;
 /// The largest number of cells a rank may have.
 pub const MAX_CELLS: usize = 64;
 /// The largest number of registers a rank may have.

@@ -80,6 +80,15 @@ impl Act {
         }
     }
 
+    /// Gives the item another rank.
+    pub fn set_rank(&mut self, other: usize) {
+        match self {
+            Act::Command { rank, .. } | Act::PopA { rank, .. } | Act::PopB { rank, .. } => {
+                *rank = other;
+            }
+        }
+    }
+
     /// The transition of a command item.
     pub fn transition(&self) -> Option<usize> {
         match self {

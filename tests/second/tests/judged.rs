@@ -5,7 +5,7 @@ mod common;
 use common::takes_high;
 use second::check::{accept, accept_items, Accepted};
 use second::generator::executions::{execution, pace};
-use second::generator::programs::{program, SMALL};
+use second::generator::programs::{every_rank, program, SMALL};
 use second::generator::rng::Rng;
 use second::generator::small_run;
 use second::generator::widen::now_and_then;
@@ -69,7 +69,8 @@ fn they_agree_from_other_starts_too() {
         let program = program(rng, SMALL);
         let start = random_start(rng, &program);
         let pace = pace(rng, 16, 7);
-        let items = execution(rng, &program, &start, pace);
+        let busy = every_rank(program.ranks);
+        let items = execution(rng, &program, &busy, &start, pace);
         let (program, items) = now_and_then(rng, (program, items));
         let accepted = accept_items(program, items, &start)
             .unwrap_or_else(|refusal| panic!("index {index}: {refusal:?}"));

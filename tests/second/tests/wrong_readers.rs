@@ -96,7 +96,7 @@ impl Rules {
     fn read_program(&self, bytes: &[u8]) -> Outcome<Program> {
         let mut reader = ByteReader::new(bytes, 1);
         let mut header = [0; 5];
-        for (number, highest) in header.iter_mut().zip([8, 64, 16, 4, 64]) {
+        for (number, highest) in header.iter_mut().zip([16, 64, 16, 4, 64]) {
             *number = reader.byte_within(1..=highest, 2)?;
         }
         let [ranks, cells, registers, queues, states] = header;

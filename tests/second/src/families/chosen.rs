@@ -2,11 +2,11 @@
 
 use super::Named;
 use crate::check::{accept, Accepted, Answer};
-use crate::corpus::{Case, CheckCase};
+use crate::corpus::{Case, CheckCase, Expected};
 use crate::generator::rng::Rng;
-use crate::generator::{input_before_107, small_run};
+use crate::generator::{input_of_document_01, small_run};
 use crate::judge::judge;
-use crate::limits::Refusal;
+use crate::limits::{Refusal, MAX_RANKS, MAX_SHORT_MAP_RANKS};
 use crate::machine::Start;
 use crate::order::Verdict;
 use crate::program::Kind;
@@ -109,27 +109,45 @@ fn judged_case(
     )))
 }
 
+/// The place of N in a program's header.
+const RANKS_PLACE: usize = 0;
 /// The place of the count byte in a program's header.
 const COUNT_PLACE: usize = 5;
 
-/// The program with a count byte that is refused today as 255 was before #107.
+/// The program with an N that is refused today as 9 to 16 were before #105, and a count byte that
+/// is refused as 255 was before #107.
 fn dated(program: &[u8]) -> Vec<u8> {
     let mut dated = program.to_vec();
+    let later_ranks = MAX_SHORT_MAP_RANKS + 1..=MAX_RANKS;
+    match dated.get_mut(RANKS_PLACE) {
+        Some(ranks) if later_ranks.contains(&usize::from(*ranks)) => *ranks = 255,
+        _ => {}
+    }
     if let Some(count @ &mut 255) = dated.get_mut(COUNT_PLACE) {
         *count = 254;
     }
     dated
 }
 
+/// The case with the number of its refusal in its name; none if it is accepted.
+fn numbered(index: u64, case: CheckCase) -> Option<CheckCase> {
+    let Expected::Refused(Refusal { number, .. }) = case.answer else {
+        return None;
+    };
+    let name = format!("refused-{number}-{index}");
+    Some(CheckCase { name, ..case })
+}
+
 /// Refusals: for each number 1 to 15 some generated inputs at places as different as can be. They
-/// are made, and chosen by their answers, as before #107, so that they are the same inputs still.
+/// are made, and chosen by their answers, by document 01 alone, so that they are the same inputs
+/// still, and refused still.
 pub fn refused_file(seed: u64) -> Result<Named, String> {
     let mut found: BTreeMap<u8, BTreeMap<usize, CheckCase>> = BTreeMap::new();
     for index in 0..PATIENCE {
         if found.len() == 15 && found.values().all(|places| places.len() >= PER_NUMBER) {
             break;
         }
-        let input = input_before_107(seed, index);
+        let input = input_of_document_01(seed, index);
         if input.program.len() > LARGEST || input.record.len() > LARGEST {
             continue;
         }
@@ -141,10 +159,9 @@ pub fn refused_file(seed: u64) -> Result<Named, String> {
         };
         let places = found.entry(number).or_default();
         if places.len() < PER_NUMBER && !places.contains_key(&place) {
-            let name = format!("refused-{number}-{index}");
             let (program, record) = (input.program, input.record);
-            let case = CheckCase::answered(name, program, record, entries.0, entries.1);
-            places.insert(place, case);
+            let case = CheckCase::answered(String::new(), program, record, entries.0, entries.1);
+            places.extend(numbered(index, case).map(|case| (place, case)));
         }
     }
     let cases = found

@@ -13,7 +13,7 @@ use crate::bounded::judge_bounded;
 use crate::check::accept;
 use crate::corpus::{Case, CheckCase};
 use crate::judge::judge_order;
-use crate::limits::{MAX_CELLS, MAX_ITEMS, MAX_RANKS};
+use crate::limits::{MAX_CELLS, MAX_ITEMS, MAX_SHORT_MAP_RANKS};
 use crate::machine::Start;
 use crate::order::Verdict;
 
@@ -82,7 +82,8 @@ fn extremes_file() -> Result<Named, String> {
         judge_accepted(&extreme.program, &extreme.record)?;
         let name = extreme.name.to_string();
         let (program, record) = (extreme.program, extreme.record);
-        let lists = (MAX_ITEMS, MAX_RANKS * MAX_CELLS);
+        // the extremes are from before #105 and have at most eight ranks
+        let lists = (MAX_ITEMS, MAX_SHORT_MAP_RANKS * MAX_CELLS);
         cases.push(Case::Check(CheckCase::answered(
             name, program, record, lists.0, lists.1,
         )));

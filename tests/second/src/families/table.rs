@@ -77,7 +77,6 @@ fn lengths() -> Vec<Row> {
 fn program_ranges() -> Vec<Row> {
     let outside = [
         (0, 0),
-        (0, 9),
         (0, 255),
         (1, 0),
         (1, 65),
@@ -112,7 +111,9 @@ fn program_ranges() -> Vec<Row> {
     ));
     // with #107 the two bytes behind a count byte of 255 are the count, here 1,538
     rows.push(program_row("byte-255", program_with(&[(5, 255)]), 2, 6));
-    rows.push(program_row("header-alone", vec![9], 2, 0));
+    // with #105 there may be nine ranks: the read's remote rank, N, is 9, its fetch names rank 2
+    rows.push(program_row("byte-9", program_with(&[(0, 9)]), 11, 5));
+    rows.push(program_row("header-alone", vec![9], 1, 1));
     rows.push(program_row("header-start", vec![2, 65], 2, 1));
     rows
 }

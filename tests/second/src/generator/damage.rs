@@ -59,7 +59,8 @@ fn put(bytes: &mut [u8], at: usize, byte: u8) {
     }
 }
 
-/// Puts another number into the program's header, often just outside its range.
+/// Puts another number into the program's header, often just outside the range that it has in
+/// document 01.
 fn header(rng: &mut Rng, program: &mut [u8]) {
     const OUTSIDE: [u8; 6] = [9, 65, 17, 5, 65, 129];
     let at = rng.below(6);
@@ -193,9 +194,7 @@ pub fn changed(rng: &mut Rng, program: &Program, mut item: Item) -> Item {
 fn change_act(rng: &mut Rng, program: &Program, act: &mut Act, some_rank: usize) {
     let by_rank = rng.chance(1, 2);
     match act {
-        Act::Command { rank, .. } | Act::PopA { rank, .. } | Act::PopB { rank, .. } if by_rank => {
-            *rank = some_rank;
-        }
+        act if by_rank => act.set_rank(some_rank),
         Act::Command { transition, .. } => *transition = rng.below(program.transitions.len()),
         Act::PopA { queue, .. } | Act::PopB { queue, .. } => *queue = rng.below(program.queues),
     }

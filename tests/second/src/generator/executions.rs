@@ -49,6 +49,8 @@ pub fn pace(rng: &mut Rng, items: usize, groups: usize) -> Pace {
 struct Execution<'a> {
     /// The program.
     program: &'a Program,
+    /// The ranks that take commands; in a row all do.
+    busy: &'a [usize],
     /// Its state so far.
     machine: Machine,
     /// Its items so far.
@@ -59,11 +61,19 @@ struct Execution<'a> {
     pace: Pace,
 }
 
-/// A random execution from the start, which the replay accepts.
-pub fn execution(rng: &mut Rng, program: &Program, start: &Start, pace: Pace) -> Vec<Item> {
+/// A random execution from the start, which the replay accepts. Only busy ranks take commands, but
+/// for the bars of rows.
+pub fn execution(
+    rng: &mut Rng,
+    program: &Program,
+    busy: &[usize],
+    start: &Start,
+    pace: Pace,
+) -> Vec<Item> {
     let machine = Machine::new(program, start);
     let mut execution = Execution {
         program,
+        busy,
         machine,
         items: Vec::new(),
         groups: 0,
@@ -122,7 +132,7 @@ impl Execution<'_> {
 
     /// Tries one command of a random rank, or a whole row; says whether it was taken.
     fn try_command(&mut self, rng: &mut Rng) -> bool {
-        let rank = rng.within(1..=self.program.ranks);
+        let rank = *rng.pick(self.busy);
         let Some(act) = self.draw(rng, rank, None) else {
             return false;
         };

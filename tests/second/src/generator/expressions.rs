@@ -19,8 +19,25 @@ pub enum Role {
     Condition,
 }
 
+/// What a transition's expressions are about.
+#[derive(Debug, Clone, Copy)]
+pub struct Scope<'a> {
+    /// The program, whose transitions need not be there yet.
+    pub program: &'a Program,
+    /// The ranks that constants name.
+    pub busy: &'a [usize],
+}
+
+impl Scope<'_> {
+    /// One of the ranks that constants name.
+    fn named_rank(&self, rng: &mut Rng) -> u16 {
+        *rng.pick(self.busy) as u16
+    }
+}
+
 /// A random expression for a role, with at most so many operators; mostly in the role's range.
-pub fn expression(rng: &mut Rng, program: &Program, role: Role, operators: usize) -> Expression {
+pub fn expression(rng: &mut Rng, scope: Scope, role: Role, operators: usize) -> Expression {
+    let program = scope.program;
     if rng.chance(1, 40) {
         return free(rng, program, operators);
     }
@@ -31,9 +48,9 @@ pub fn expression(rng: &mut Rng, program: &Program, role: Role, operators: usize
         }
         Role::Cell => {
             let cell = rng.below(program.cells);
-            by_rank(rng, program, cell as u16, operators)
+            by_rank(rng, scope, cell as u16, operators)
         }
-        Role::Rank => remote_rank(rng, program, operators),
+        Role::Rank => remote_rank(rng, scope, operators),
         Role::Queue => {
             let queue = rng.below(program.queues);
             constant(rng, queue as u16, operators)
@@ -43,7 +60,7 @@ pub fn expression(rng: &mut Rng, program: &Program, role: Role, operators: usize
             let value = rng.value();
             constant(rng, value, operators)
         }
-        Role::Condition => by_rank(rng, program, 1, operators),
+        Role::Condition => by_rank(rng, scope, 1, operators),
     }
 }
 
@@ -77,12 +94,12 @@ pub fn constant(rng: &mut Rng, value: u16, operators: usize) -> Expression {
 }
 
 /// An expression that has this value at one rank and may have others elsewhere.
-fn by_rank(rng: &mut Rng, program: &Program, value: u16, operators: usize) -> Expression {
+fn by_rank(rng: &mut Rng, scope: Scope, value: u16, operators: usize) -> Expression {
     if operators == 0 {
-        let register = Expression::Register(rng.below(program.registers));
+        let register = Expression::Register(rng.below(scope.program.registers));
         return rng.pick(&[register, Expression::Constant(value)]).clone();
     }
-    let rank = rng.within(1..=program.ranks) as u16;
+    let rank = scope.named_rank(rng);
     let rest = operators - 1;
     match rng.below(3) {
         0 => {
@@ -101,7 +118,7 @@ fn by_rank(rng: &mut Rng, program: &Program, value: u16, operators: usize) -> Ex
 }
 
 /// An expression for a remote rank: fixed, the own one, N, or the opposite one.
-fn remote_rank(rng: &mut Rng, program: &Program, operators: usize) -> Expression {
+fn remote_rank(rng: &mut Rng, scope: Scope, operators: usize) -> Expression {
     if operators >= 2 && rng.chance(1, 3) {
         let one_more = binary(
             Operator::Sum,
@@ -114,7 +131,7 @@ fn remote_rank(rng: &mut Rng, program: &Program, operators: usize) -> Expression
         0 => Expression::OwnRank,
         1 => Expression::RankCount,
         _ => {
-            let rank = rng.within(1..=program.ranks) as u16;
+            let rank = scope.named_rank(rng);
             constant(rng, rank, operators)
         }
     }

@@ -1,24 +1,26 @@
 //! Seeded, repeatable inputs: random programs, executions of them, and damage.
 
 pub mod aimed;
+pub mod aimed_ranks;
 pub mod damage;
 pub mod executions;
 pub mod expressions;
 pub mod loosen;
+pub mod many_ranks;
 pub mod programs;
 pub mod rng;
 pub mod slips;
 pub mod widen;
 
 use crate::families::extremes::extremes;
-use crate::limits::MAX_SHORT_COUNT;
+use crate::limits::{MAX_RANKS, MAX_SHORT_COUNT, MAX_SHORT_MAP_RANKS};
 use crate::machine::Start;
 use crate::program::{Kind, Program};
 use crate::record::{read_record, record_bytes, Item};
 use executions::{execution, pace};
-use programs::{Size, CROWDED, MIDDLE, SMALL, WIDE};
+use programs::{every_rank, Size, CROWDED, MIDDLE, SMALL, WIDE};
 use rng::Rng;
-use widen::now_and_then;
+use widen::{now_and_then, Run};
 
 /// One input of the whole check.
 #[derive(Debug, Clone, PartialEq, Eq)]
@@ -45,7 +47,7 @@ struct Profile {
 }
 
 /// A random small run, for the exhaustive judge: at most 16 items in at most 7 groups.
-pub fn small_run(rng: &mut Rng) -> (Program, Vec<Item>) {
+pub fn small_run(rng: &mut Rng) -> Run {
     run(
         rng,
         Profile {
@@ -57,14 +59,20 @@ pub fn small_run(rng: &mut Rng) -> (Program, Vec<Item>) {
 }
 
 /// A random program and an execution of it from document 01's start.
-fn run(rng: &mut Rng, profile: Profile) -> (Program, Vec<Item>) {
+fn run(rng: &mut Rng, profile: Profile) -> Run {
     let program = programs::program(rng, profile.size);
+    let busy = every_rank(program.ranks);
+    executed(rng, program, &busy, profile)
+}
+
+/// The program with an execution of it from document 01's start, in which these ranks are busy.
+fn executed(rng: &mut Rng, program: Program, busy: &[usize], profile: Profile) -> Run {
     let groups = rng
         .within(0..=profile.groups)
         .max(rng.within(0..=profile.groups));
     let mut pace = pace(rng, profile.items, groups);
     pace.at_once = rng.chance(1, 8);
-    let mut items = execution(rng, &program, &Start::zero(&program), pace);
+    let mut items = execution(rng, &program, busy, &Start::zero(&program), pace);
     if pace.at_once {
         loosen::loosen(rng, &program, &mut items);
     }
@@ -72,18 +80,19 @@ fn run(rng: &mut Rng, profile: Profile) -> (Program, Vec<Item>) {
 }
 
 /// A long random run whose trace a plain run has: a plain run, loosened.
-pub fn long_loosened_run(rng: &mut Rng) -> (Program, Vec<Item>) {
+pub fn long_loosened_run(rng: &mut Rng) -> Run {
     let size = *rng.pick(&[CROWDED, WIDE]);
     let program = programs::program(rng, size);
     let mut pace = pace(rng, 1024, 1024);
     pace.at_once = true;
-    let mut items = execution(rng, &program, &Start::zero(&program), pace);
+    let busy = every_rank(program.ranks);
+    let mut items = execution(rng, &program, &busy, &Start::zero(&program), pace);
     loosen::loosen(rng, &program, &mut items);
     (program, items)
 }
 
 /// A random run of middle length, at most 40 items, with any delays.
-pub fn middle_run(rng: &mut Rng) -> (Program, Vec<Item>) {
+pub fn middle_run(rng: &mut Rng) -> Run {
     run(
         rng,
         Profile {
@@ -142,7 +151,7 @@ pub fn group_count(program: &Program, items: &[Item]) -> usize {
 }
 
 /// A run for an input: mostly a random one, now and then an extreme.
-fn any_run(rng: &mut Rng) -> (Program, Vec<Item>) {
+fn any_run(rng: &mut Rng) -> Run {
     if rng.chance(1, 150) {
         let extremes = extremes();
         let extreme = rng.pick(&extremes);
@@ -172,38 +181,61 @@ fn roomy(rng: &mut Rng, program: &Program, items: &[Item]) -> Input {
 /// The small input of this number under this seed, for the exhaustive judge; none is damaged.
 pub fn small_input(seed: u64, index: u64) -> Input {
     let mut rng = Rng::new(seed, index);
-    let run = small_run(&mut rng);
-    let (program, items) = now_and_then(&mut rng, run);
+    let (program, items) = later_run(&mut rng, small_run, many_ranks::small_run);
     roomy(&mut rng, &program, &items)
 }
 
 /// What inputs are made of.
 #[derive(Debug, Clone, Copy, PartialEq, Eq)]
 enum Edition {
-    /// Document 01 alone, as the older corpus files were made. Nothing is drawn for #107, so that
-    /// they come out the same.
-    Before107,
-    /// #107 too: programs of more than 128 transitions, and damage aimed at its fields.
-    With107,
+    /// Document 01 alone, as the older corpus files were made. Nothing is drawn for #105 and #107,
+    /// so that they come out the same.
+    Document01,
+    /// #105 and #107 too: programs of more than 8 ranks and of more than 128 transitions, and
+    /// damage aimed at both.
+    Later,
+}
+
+impl Edition {
+    /// The largest N.
+    fn most_ranks(self) -> usize {
+        match self {
+            Edition::Document01 => MAX_SHORT_MAP_RANKS,
+            Edition::Later => MAX_RANKS,
+        }
+    }
+}
+
+/// A way to make a random run.
+type Maker = fn(&mut Rng) -> Run;
+
+/// A run of one or the other making, one in five of more than eight ranks; now and then widened.
+pub fn later_run(rng: &mut Rng, few_ranks: Maker, many_ranks: Maker) -> Run {
+    let run = if rng.chance(1, 5) {
+        many_ranks(rng)
+    } else {
+        few_ranks(rng)
+    };
+    now_and_then(rng, run)
 }
 
 /// The input of this number under this seed; half of them are damaged.
 pub fn input(seed: u64, index: u64) -> Input {
-    made(seed, index, Edition::With107)
+    made(seed, index, Edition::Later)
 }
 
-/// The input of this number under this seed as it was before #107.
-pub fn input_before_107(seed: u64, index: u64) -> Input {
-    made(seed, index, Edition::Before107)
+/// The input of this number under this seed as document 01 alone has them.
+pub fn input_of_document_01(seed: u64, index: u64) -> Input {
+    made(seed, index, Edition::Document01)
 }
 
 /// The input of this number under this seed.
 fn made(seed: u64, index: u64, edition: Edition) -> Input {
     let mut rng = Rng::new(seed, index);
-    let (mut program, mut items) = any_run(&mut rng);
-    if edition == Edition::With107 {
-        (program, items) = now_and_then(&mut rng, (program, items));
-    }
+    let (program, mut items) = match edition {
+        Edition::Document01 => any_run(&mut rng),
+        Edition::Later => later_run(&mut rng, any_run, many_ranks::any_run),
+    };
     let mut input = roomy(&mut rng, &program, &items);
     if rng.chance(1, 2) {
         let times = *rng.pick(&[1, 1, 1, 2]);
@@ -211,15 +243,21 @@ fn made(seed: u64, index: u64, edition: Edition) -> Input {
             damage::damage(&mut rng, &program, &mut items, &mut input);
         }
     }
-    if edition == Edition::With107 && is_aimed(&mut rng, &program) {
-        aimed::damage(&mut rng, &program, &mut items, &mut input);
+    if edition == Edition::Later {
+        let long = program.transitions.len() > MAX_SHORT_COUNT;
+        if is_aimed(&mut rng, long) {
+            aimed::damage(&mut rng, &program, &mut items, &mut input);
+        }
+        let many = program.ranks > MAX_SHORT_MAP_RANKS;
+        if is_aimed(&mut rng, many) {
+            aimed_ranks::damage(&mut rng, &program, &mut items, &mut input);
+        }
     }
     input
 }
 
-/// Whether damage is aimed at what #107 brings: every other time where a program has more than 128
-/// transitions, and else one in sixteen times.
-fn is_aimed(rng: &mut Rng, program: &Program) -> bool {
-    let long = program.transitions.len() > MAX_SHORT_COUNT;
-    rng.chance(1, if long { 2 } else { 16 })
+/// Whether damage is aimed at what a later request brings: every other time where the program is
+/// one that only this request allows, and else one in sixteen times.
+fn is_aimed(rng: &mut Rng, allowed_by_it: bool) -> bool {
+    rng.chance(1, if allowed_by_it { 2 } else { 16 })
 }

@@ -1,6 +1,6 @@
 //! Random readable programs.
 
-use super::expressions::{expression, Role};
+use super::expressions::{expression, Role, Scope};
 use super::rng::Rng;
 use crate::program::{Kind, Program, Transition};
 
@@ -43,7 +43,8 @@ pub const MIDDLE: Size = Size {
     transitions: 16,
     operators: 4,
 };
-/// Programs up to all the limits of document 01; `widen` takes them beyond its T.
+/// Programs up to all the limits of document 01; `widen` takes them beyond its T, `many_ranks`
+/// beyond its N.
 pub const WIDE: Size = Size {
     ranks: 8,
     cells: 64,
@@ -86,10 +87,21 @@ const WEIGHTED_KINDS: [Kind; 18] = [
     Kind::Bar,
 ];
 
+/// The ranks of a program, all of them busy.
+pub fn every_rank(ranks: usize) -> Vec<usize> {
+    (1..=ranks).collect()
+}
+
 /// A random readable program of at most this size, rather of several ranks than of one.
 pub fn program(rng: &mut Rng, size: Size) -> Program {
+    let ranks = rng.within(1..=size.ranks).max(rng.within(1..=size.ranks));
+    program_of(rng, size, ranks, &every_rank(ranks))
+}
+
+/// A random readable program of so many ranks and else at most this size; constants name busy ranks.
+pub fn program_of(rng: &mut Rng, size: Size, ranks: usize, busy: &[usize]) -> Program {
     let mut program = Program {
-        ranks: rng.within(1..=size.ranks).max(rng.within(1..=size.ranks)),
+        ranks,
         cells: rng.within(1..=size.cells),
         registers: rng.within(1..=size.registers),
         queues: rng.within(1..=size.queues),
@@ -100,15 +112,19 @@ pub fn program(rng: &mut Rng, size: Size) -> Program {
         .within(0..=size.transitions)
         .max(program.states.min(size.transitions));
     for number in 0..count {
-        let transition = transition(rng, &program, number, size.operators);
+        let scope = Scope {
+            program: &program,
+            busy,
+        };
+        let transition = transition(rng, scope, number, size.operators);
         program.transitions.push(transition);
     }
     program
 }
 
 /// A random transition; the first S of them leave each state once and lead on to the next.
-pub fn transition(rng: &mut Rng, program: &Program, number: usize, operators: usize) -> Transition {
-    let states = program.states;
+pub fn transition(rng: &mut Rng, scope: Scope, number: usize, operators: usize) -> Transition {
+    let states = scope.program.states;
     let from = if number < states {
         number
     } else {
@@ -129,12 +145,12 @@ pub fn transition(rng: &mut Rng, program: &Program, number: usize, operators: us
         Kind::PopA | Kind::PopB | Kind::Bar => &[],
     };
     let takes_register = matches!(kind, Kind::Load | Kind::Assign);
-    let register = takes_register.then(|| rng.below(program.registers));
+    let register = takes_register.then(|| rng.below(scope.program.registers));
     let expressions = roles
         .iter()
         .map(|&role| {
             let operators = rng.within(0..=operators);
-            expression(rng, program, role, operators)
+            expression(rng, scope, role, operators)
         })
         .collect();
     Transition {

@@ -1,6 +1,7 @@
 //! More transitions than a run needs, so that it takes numbers of one byte and of two: #107.
 
-use super::programs::transition;
+use super::expressions::Scope;
+use super::programs::{every_rank, transition};
 use super::rng::Rng;
 use crate::limits::MAX_TRANSITIONS;
 use crate::program::{Program, Transition};
@@ -106,9 +107,11 @@ fn filled(rng: &mut Rng, program: &Program, homes: &[Vec<usize>], size: usize) -
             placed[number] = Some(old);
         }
     }
+    let busy = &every_rank(program.ranks);
+    let scope = Scope { program, busy };
     let mut fill = |(number, old): (usize, Option<&Transition>)| match old {
         Some(old) => old.clone(),
-        None => transition(rng, program, number, OPERATORS),
+        None => transition(rng, scope, number, OPERATORS),
     };
     placed.into_iter().enumerate().map(&mut fill).collect()
 }
