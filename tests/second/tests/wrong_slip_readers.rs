@@ -22,6 +22,14 @@ struct Rules {
     most_ranks: usize,
     /// The smallest N.
     least_ranks: usize,
+    /// The map's number of bytes for N.
+    map_length: fn(usize) -> usize,
+    /// The map that its bytes make.
+    map: fn(&[u8]) -> usize,
+    /// Where a bit above N is placed.
+    bits_above_at: usize,
+    /// Where half a map is placed, if not at the length.
+    half_map_at: Option<usize>,
     /// Whether a bit above N is refused.
     bits_above: bool,
     /// Whether bytes left over are refused.
@@ -42,8 +50,16 @@ struct Rules {
 const RIGHT: Rules = Rules {
     bit_of: |index, _| index,
     counts: 1..=1024,
-    most_ranks: 8,
+    most_ranks: 16,
     least_ranks: 1,
+    map_length: |ranks| if ranks > 8 { 2 } else { 1 },
+    map: |bytes| {
+        bytes
+            .iter()
+            .fold(0, |map, &byte| 256 * map + usize::from(byte))
+    },
+    bits_above_at: 0,
+    half_map_at: None,
     bits_above: true,
     left_over: true,
     missing: true,
@@ -92,17 +108,17 @@ fn read_entries(rules: &Rules, ranks: usize, slip: &[u8]) -> Result<Entries, (Re
     if ranks < rules.least_ranks || ranks > rules.most_ranks {
         return refuse(0, read);
     }
-    let Some(&map) = slip.first() else {
-        return refuse(0, read);
+    let mut at = (rules.map_length)(ranks);
+    let Some(map) = slip.get(..at).map(rules.map) else {
+        return refuse(rules.half_map_at.unwrap_or(slip.len()), read);
     };
-    let above = usize::from(map).checked_shr(ranks as u32);
+    let above = map.checked_shr(ranks as u32);
     if rules.bits_above && above.is_some_and(|bits| bits != 0) {
-        return refuse(0, read);
+        return refuse(rules.bits_above_at, read);
     }
-    let mut at = 1;
     for index in 0..ranks {
         let bit = (rules.bit_of)(index, ranks);
-        if bit > 7 || map >> bit & 1 == 0 {
+        if bit > 15 || map >> bit & 1 == 0 {
             read.push(rules.without_bit);
             continue;
         }
@@ -169,7 +185,7 @@ fn map_bits_read_from_the_other_end() {
         ..RIGHT
     });
     assert_rules_caught(Rules {
-        bit_of: |index, _| 7 - index,
+        bit_of: |index, ranks| 8 * (RIGHT.map_length)(ranks) - 1 - index,
         bits_above: false,
         ..RIGHT
     });
@@ -227,7 +243,7 @@ fn a_bit_above_n_taken() {
 
 #[test]
 fn an_n_outside_its_range_taken() {
-    for most_ranks in [7, 9, 255] {
+    for most_ranks in [8, 9, 15, 17, 255] {
         assert_rules_caught(Rules {
             most_ranks,
             ..RIGHT
@@ -261,7 +277,7 @@ fn counts_filled_before_a_fault() {
 fn counts_filled_although_too_short() {
     assert_slip_reader_caught(&|ranks, slip, counts| {
         let short = slip_read(ranks, slip, counts);
-        let mut longer = [0; 8];
+        let mut longer = [0; 16];
         if short.number == 15 && slip_read(ranks, slip, &mut longer).number == DONE {
             counts.copy_from_slice(&longer[..counts.len()]);
         }
@@ -298,7 +314,7 @@ fn the_count_of_bits_told_instead_of_n() {
     assert_slip_reader_caught(&|ranks, slip, counts| {
         let done = slip_read(ranks, slip, counts);
         match done.number {
-            DONE => told(DONE, slip[0].count_ones() as usize),
+            DONE => told(DONE, (slip.len() - 1) / 2),
             _ => done,
         }
     });
@@ -324,5 +340,61 @@ fn a_length_of_counts_taken_in_bytes() {
 fn no_value_told_of_a_slip_read() {
     assert_slip_reader_caught(&|ranks, slip, counts| {
         told(slip_read(ranks, slip, counts).number, usize::MAX)
+    });
+}
+
+#[test]
+fn the_length_of_a_map_not_by_n() {
+    for map_length in [
+        |_| 1,
+        |_| 2,
+        |ranks| if ranks > 7 { 2 } else { 1 },
+        |ranks| if ranks > 9 { 2 } else { 1 },
+        |ranks| if ranks > 15 { 2 } else { 1 },
+    ] {
+        assert_rules_caught(Rules {
+            map_length,
+            ..RIGHT
+        });
+    }
+}
+
+#[test]
+fn the_low_byte_of_a_map_read_first() {
+    assert_rules_caught(Rules {
+        map: |bytes| {
+            bytes
+                .iter()
+                .rfold(0, |map, &byte| 256 * map + usize::from(byte))
+        },
+        ..RIGHT
+    });
+}
+
+#[test]
+fn one_byte_of_a_map_dropped() {
+    assert_rules_caught(Rules {
+        map: |bytes| (RIGHT.map)(bytes) % 256,
+        ..RIGHT
+    });
+    assert_rules_caught(Rules {
+        map: |bytes| bytes[0].into(),
+        ..RIGHT
+    });
+}
+
+#[test]
+fn a_bit_above_n_placed_behind_the_first_byte() {
+    assert_rules_caught(Rules {
+        bits_above_at: 1,
+        ..RIGHT
+    });
+}
+
+#[test]
+fn half_a_map_placed_at_its_first_byte() {
+    assert_rules_caught(Rules {
+        half_map_at: Some(0),
+        ..RIGHT
     });
 }

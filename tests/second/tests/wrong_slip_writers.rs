@@ -6,7 +6,7 @@ use common::{assert_extras_caught, assert_extras_right, told};
 use second::check::{accept, Accepted};
 use second::extras::{listed, slip_read, slip_written, Extras, Told, Writer, DONE};
 use second::program::Kind;
-use second::slip::slip_of;
+use second::slip::{map_bytes, slip_of};
 
 /// Fails unless this slip writer is caught.
 fn assert_slip_writer_caught(subject: Writer) {
@@ -37,15 +37,36 @@ fn assert_slips_caught(slip_of: &dyn Fn(&Accepted) -> Vec<u8>) {
     assert_slip_writer_caught(&|program, record, slip| write(slip_of, program, record, slip));
 }
 
+/// The map of these counts, with the bit that a rank's index is given.
+fn map_with(counts: &[usize], bit_of: impl Fn(usize) -> usize) -> u16 {
+    let with_count = (0..counts.len()).filter(|&index| counts[index] > 0);
+    with_count.map(|index| 1 << bit_of(index)).sum()
+}
+
+/// The bytes of counts.
+fn count_bytes(counts: &[usize]) -> Vec<u8> {
+    let bytes = |&count: &usize| (count as u16).to_be_bytes();
+    counts.iter().flat_map(bytes).collect()
+}
+
+/// A slip of this map's bytes and these counts, those of 0 left out.
+fn slip_after(mut map: Vec<u8>, counts: &[usize]) -> Vec<u8> {
+    let not_0: Vec<usize> = counts.iter().copied().filter(|&count| count > 0).collect();
+    map.extend(count_bytes(&not_0));
+    map
+}
+
 /// A slip of these counts, with the bit that a rank's index is given.
 fn slip_with(counts: &[usize], bit_of: impl Fn(usize) -> usize) -> Vec<u8> {
-    let mut slip = vec![0];
-    for (index, &count) in counts.iter().enumerate() {
-        if count > 0 {
-            slip[0] |= 1 << bit_of(index);
-            slip.extend((count as u16).to_be_bytes());
-        }
-    }
+    let map = map_bytes(counts.len(), map_with(counts, bit_of));
+    slip_after(map, counts)
+}
+
+/// The bytes of an accepted run's slip, with its counts to be changed.
+fn with_counts(accepted: &Accepted, change: fn(&mut [u8])) -> Vec<u8> {
+    let mut slip = slip_of(accepted);
+    let counts = map_bytes(accepted.program.ranks, 0).len();
+    change(&mut slip[counts..]);
     slip
 }
 
@@ -76,11 +97,11 @@ fn the_parts_put_together_rightly_are_not_caught() {
 #[test]
 fn an_invented_count_written() {
     assert_slips_caught(&|accepted| {
-        let mut slip = slip_of(accepted);
-        if let [_, .., low] = &mut slip[..] {
-            *low ^= 1;
-        }
-        slip
+        with_counts(accepted, |counts| {
+            if let Some(low) = counts.last_mut() {
+                *low ^= 1;
+            }
+        })
     });
     assert_slips_caught(&|accepted| {
         let ones: Vec<usize> = counts_of(accepted)
@@ -94,31 +115,28 @@ fn an_invented_count_written() {
 #[test]
 fn a_count_written_for_a_rank_without_a_command() {
     // With its bit and a count of 0, then with the count alone.
+    let slip = |counts: &[usize], map| {
+        let mut slip = map_bytes(counts.len(), map);
+        slip.extend(count_bytes(counts));
+        slip
+    };
     assert_slips_caught(&|accepted| {
         let counts = counts_of(accepted);
-        let mut slip = vec![((1_u16 << counts.len()) - 1) as u8];
-        slip.extend(
-            counts
-                .iter()
-                .flat_map(|&count| (count as u16).to_be_bytes()),
-        );
-        slip
+        slip(&counts, u16::MAX >> (16 - counts.len()))
     });
     assert_slips_caught(&|accepted| {
         let counts = counts_of(accepted);
-        let mut slip = vec![slip_of(accepted)[0]];
-        slip.extend(
-            counts
-                .iter()
-                .flat_map(|&count| (count as u16).to_be_bytes()),
-        );
-        slip
+        slip(&counts, map_with(&counts, |index| index))
     });
 }
 
 #[test]
 fn map_bits_written_from_the_other_end() {
-    assert_slips_caught(&|accepted| slip_with(&counts_of(accepted), |index| 7 - index));
+    assert_slips_caught(&|accepted| {
+        let counts = counts_of(accepted);
+        let last = 8 * map_bytes(counts.len(), 0).len() - 1;
+        slip_with(&counts, |index| last - index)
+    });
     assert_slips_caught(&|accepted| {
         let counts = counts_of(accepted);
         slip_with(&counts, |index| counts.len() - 1 - index)
@@ -128,19 +146,19 @@ fn map_bits_written_from_the_other_end() {
 #[test]
 fn counts_written_ranks_falling() {
     assert_slips_caught(&|accepted| {
-        let mut slip = slip_of(accepted);
-        slip[1..].reverse();
-        slip[1..].chunks_exact_mut(2).for_each(<[u8]>::reverse);
-        slip
+        with_counts(accepted, |counts| {
+            counts.reverse();
+            counts.chunks_exact_mut(2).for_each(<[u8]>::reverse);
+        })
     });
 }
 
 #[test]
 fn counts_written_low_byte_first() {
     assert_slips_caught(&|accepted| {
-        let mut slip = slip_of(accepted);
-        slip[1..].chunks_exact_mut(2).for_each(<[u8]>::reverse);
-        slip
+        with_counts(accepted, |counts| {
+            counts.chunks_exact_mut(2).for_each(<[u8]>::reverse);
+        })
     });
 }
 
@@ -193,7 +211,7 @@ fn a_slip_memory_too_short_said_before_the_replay() {
 #[test]
 fn slip_bytes_written_although_too_short() {
     assert_slip_writer_caught(&|program, record, slip| {
-        let mut longer = [0; 17];
+        let mut longer = [0; 2 + 2 * 16];
         let short = slip_written(program, record, slip);
         if short.number == 15 {
             slip_written(program, record, &mut longer);
@@ -261,4 +279,48 @@ fn no_value_told_of_a_slip_written() {
     assert_slip_writer_caught(&|program, record, slip| {
         told(slip_written(program, record, slip).number, usize::MAX)
     });
+}
+
+/// Fails unless a slip writer with another map of the right counts is caught.
+fn assert_maps_caught(map: fn(usize, u16) -> Vec<u8>) {
+    assert_slips_caught(&|accepted| {
+        let counts = counts_of(accepted);
+        let right = map_with(&counts, |index| index);
+        slip_after(map(counts.len(), right), &counts)
+    });
+}
+
+#[test]
+fn a_map_of_one_byte_for_more_than_8_ranks() {
+    assert_maps_caught(|_, map| vec![map as u8]);
+}
+
+#[test]
+fn a_map_of_two_bytes_for_at_most_8_ranks() {
+    assert_maps_caught(|_, map| map.to_be_bytes().to_vec());
+}
+
+#[test]
+fn the_length_of_a_map_changed_at_another_n() {
+    assert_maps_caught(|ranks, map| map_bytes(ranks + 1, map));
+    assert_maps_caught(|ranks, map| map_bytes(ranks - 1, map));
+}
+
+#[test]
+fn the_length_of_a_map_by_its_highest_bit() {
+    assert_maps_caught(|_, map| map_bytes(if map > 255 { 9 } else { 8 }, map));
+}
+
+#[test]
+fn the_low_byte_of_a_map_first() {
+    assert_maps_caught(|ranks, map| {
+        let mut bytes = map_bytes(ranks, map);
+        bytes.reverse();
+        bytes
+    });
+}
+
+#[test]
+fn a_map_cut_to_8_bits() {
+    assert_maps_caught(|ranks, map| map_bytes(ranks, map % 256));
 }
