@@ -80,6 +80,11 @@ impl Operator {
 }
 
 impl Expression {
+    /// An operator over two expressions.
+    pub fn binary(operator: Operator, first: Expression, second: Expression) -> Expression {
+        Expression::Binary(operator, Box::new(first), Box::new(second))
+    }
+
     /// Reads one expression of at most 15 tokens.
     pub fn read(reader: &mut ByteReader, registers: usize) -> Outcome<Expression> {
         let mut left = MAX_TOKENS;

@@ -4,7 +4,7 @@ mod common;
 
 use common::accepted;
 use second::check::Accepted;
-use second::generator::{middle_run, small_run};
+use second::generator::{many_ranks, middle_run, small_run};
 use second::groups::{arrows, Pairs};
 use second::machine::Step;
 use second::order::Verdict;
@@ -103,7 +103,8 @@ fn arrows_and_rings_are_as_defined() {
     for index in 0..4_000 {
         rings += usize::from(compare(&accepted(small_run, 31, index)));
         rings += usize::from(compare(&accepted(middle_run, 32, index)));
+        rings += usize::from(compare(&accepted(many_ranks::small_run, 33, index)));
     }
-    println!("arrows: 8000 runs as defined, {rings} of them rings");
+    println!("arrows: 12000 runs as defined, {rings} of them rings");
     assert!(rings >= 2_000);
 }

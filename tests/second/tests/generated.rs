@@ -210,3 +210,95 @@ fn a_widened_run_has_the_same_answer() {
     println!("widened: 1000 runs, {wide} of them with transitions from 256 on");
     assert!(wide >= 400);
 }
+
+/// What an input and its answer show of #105, if anything.
+fn seen_of_ranks(input: &Input, answer: Answer) -> Option<String> {
+    let ranks = usize::from(*input.program.first()?);
+    let (number, place) = match answer {
+        Answer::Order(0) => return None,
+        Answer::Order(_) if ranks > 8 => return Some(format!("order of {ranks} ranks")),
+        Answer::Ring(_) if ranks > 8 => return Some(format!("ring of {ranks} ranks")),
+        Answer::Refused(Refusal { number, place }) => (number, place),
+        _ => return None,
+    };
+    match (number, place) {
+        (2, 0) if ranks == 17 => Some("n of 17".into()),
+        (2, 0) => Some("n outside its range".into()),
+        (5, _) if ranks > 8 && place > 0 => {
+            let other = usize::from(input.record[place]);
+            (other == ranks + 1).then(|| "rank one above n of more than 8".into())
+        }
+        (5, _) if ranks == 8 && place > 0 => {
+            (input.record[place] == 9).then(|| "rank 9 of 8".into())
+        }
+        _ if ranks > 8 => Some(format!("refused {number} of more than 8 ranks")),
+        _ => None,
+    }
+}
+
+#[test]
+fn every_rule_of_105_is_seen() {
+    let mut times: BTreeMap<String, usize> = BTreeMap::new();
+    let (mut many, mut accepted_rows) = (0, 0);
+    for index in 0..20_000 {
+        let input = input(12, index);
+        let answer = compare(&between_guards(&check_bytes), &input)
+            .unwrap_or_else(|fault| panic!("seed 12, index {index}: {fault}"));
+        if let Some(seen) = seen_of_ranks(&input, answer) {
+            *times.entry(seen).or_default() += 1;
+        }
+        let is_many = input
+            .program
+            .first()
+            .is_some_and(|ranks| (9..=16).contains(ranks));
+        many += usize::from(is_many);
+        let refused = matches!(answer, Answer::Refused(_));
+        let bars = |&at: &usize| input.record[at + 1] == 9;
+        accepted_rows +=
+            usize::from(is_many && !refused && items_of(&input.record).iter().any(bars));
+    }
+    println!("{times:#?}\n{many} of 20000 with N from 9 to 16, {accepted_rows} accepted with rows");
+    let rare: Vec<_> = times.iter().filter(|(_, &times)| times < 4).collect();
+    assert!(rare.is_empty(), "rare {rare:?}");
+    // an order and a ring of each N from 9 on, each number from 1 to 15, and the four above
+    assert_eq!(times.len(), 8 + 8 + 15 + 4);
+    assert!(many >= 3_000 && accepted_rows >= 300);
+}
+
+#[test]
+fn slips_with_maps_of_two_bytes_are_seen() {
+    let (mut read, mut refused) = (BTreeMap::<usize, usize>::new(), BTreeMap::new());
+    for index in 0..6_000 {
+        let slip = slip_input(13, index);
+        let mut counts = vec![0; slip.counts_entries];
+        match read_slip(slip.ranks, &slip.slip, &mut counts) {
+            Ok(()) => *read.entry(slip.ranks).or_default() += 1,
+            Err(refusal) if slip.ranks > 8 => {
+                *refused
+                    .entry((refusal.number, refusal.place.min(4)))
+                    .or_default() += 1;
+            }
+            Err(_) => {}
+        }
+    }
+    println!("read by N {read:?}, refused {refused:?}");
+    assert!(read.keys().eq(&(1..=16).collect::<Vec<_>>()));
+    assert!(read.values().all(|&times| times >= 50));
+    for place in 0..=4 {
+        let times: usize = refused.get(&(16, place)).copied().unwrap_or(0);
+        assert!(times >= 20, "16 at {place}: {times}");
+    }
+}
+
+#[test]
+fn no_slip_is_read_both_with_one_byte_of_map_and_with_two() {
+    let reads = |slip: &[u8], ranks| read_slip(ranks, slip, &mut [0; 16]).is_ok();
+    for index in 0..6_000 {
+        let slip = slip_input(14, index).slip;
+        let [short, long] = [1..=8, 9..=16].map(|mut all| all.any(|ranks| reads(&slip, ranks)));
+        assert!(!(short && long), "seed 14, index {index}");
+        let odd = slip.len() % 2 == 1;
+        assert!(!short || odd, "seed 14, index {index}");
+        assert!(!long || !odd, "seed 14, index {index}");
+    }
+}

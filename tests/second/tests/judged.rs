@@ -5,10 +5,10 @@ mod common;
 use common::takes_high;
 use second::check::{accept, accept_items, Accepted};
 use second::generator::executions::{execution, pace};
-use second::generator::programs::{every_rank, program, SMALL};
+use second::generator::programs::{every_rank, program_of, SMALL};
 use second::generator::rng::Rng;
-use second::generator::small_run;
 use second::generator::widen::now_and_then;
+use second::generator::{later_run, many_ranks, small_run};
 use second::judge::judge;
 use second::judged::Verdicts;
 use second::machine::Start;
@@ -27,18 +27,21 @@ fn judge_and_count(verdicts: &mut Verdicts, accepted: &Accepted, start: &Start, 
 
 #[test]
 fn arrows_and_the_exhaustive_judge_agree() {
-    let (mut counts, mut high) = (Verdicts::default(), 0);
+    let (mut counts, mut many, mut high) = (Verdicts::default(), Verdicts::default(), 0);
     for index in 0..RECORDS {
         let rng = &mut Rng::new(1, index);
-        let run = small_run(rng);
-        let (program, items) = now_and_then(rng, run);
+        let (program, items) = later_run(rng, small_run, many_ranks::small_run);
         let accepted = accept(&program.to_bytes(), &record_bytes(&items))
             .unwrap_or_else(|refusal| panic!("index {index}: {refusal:?}"));
         assert_eq!((&accepted.program, &accepted.items), (&program, &items));
         judge_and_count(&mut counts, &accepted, &Start::zero(&program), index);
         high += usize::from(takes_high(&items));
+        if program.ranks > 8 {
+            many.count(&accepted.verdict);
+        }
     }
     println!("judged: {counts:?}, {high} of them with transitions from 256 on");
+    println!("of more than eight ranks: {many:?}");
     assert!(counts.own_orders >= 10_000, "too few orders");
     assert!(
         counts.other_orders >= 2_000,
@@ -46,6 +49,8 @@ fn arrows_and_the_exhaustive_judge_agree() {
     );
     assert!(counts.rings >= 6_000, "too few rings");
     assert!(high >= 2_000, "too few with transitions from 256 on");
+    let of_many = [many.own_orders, many.other_orders, many.rings];
+    assert!(of_many.iter().all(|&count| count >= 250), "{many:?}");
 }
 
 /// A start with random cells, registers and states.
@@ -66,11 +71,12 @@ fn they_agree_from_other_starts_too() {
     let mut counts = Verdicts::default();
     for index in 0..OTHER_STARTS {
         let rng = &mut Rng::new(2, index);
-        let program = program(rng, SMALL);
+        let ranks = *rng.pick(&[1, 2, 3, 3, 9, 15, 16]);
+        let busy = &every_rank(ranks)[ranks.saturating_sub(3)..];
+        let program = program_of(rng, SMALL, ranks, busy);
         let start = random_start(rng, &program);
-        let pace = pace(rng, 16, 7);
-        let busy = every_rank(program.ranks);
-        let items = execution(rng, &program, &busy, &start, pace);
+        let pace = pace(rng, 16 + ranks, 7);
+        let items = execution(rng, &program, busy, &start, pace);
         let (program, items) = now_and_then(rng, (program, items));
         let accepted = accept_items(program, items, &start)
             .unwrap_or_else(|refusal| panic!("index {index}: {refusal:?}"));

@@ -4,7 +4,7 @@ mod common;
 
 use common::{accepted, takes_high};
 use second::bounded::{find_bounded, judge_bounded, Found};
-use second::generator::{long_loosened_run, middle_run, small_run};
+use second::generator::{long_loosened_run, many_ranks, middle_run, small_run};
 use second::judge::{find_plain_run, judge_order};
 use second::machine::Start;
 use second::order::Verdict;
@@ -60,4 +60,26 @@ fn arrows_and_the_bounded_search_agree_on_middle_runs() {
     }
     println!("middle: {orders} orders, {rings} rings, {unknown} given up, {high} from 256 on");
     assert!(orders >= 1_000 && rings >= 1_000 && unknown < 100 && high >= 300);
+}
+
+#[test]
+fn arrows_and_the_bounded_search_agree_on_runs_of_many_ranks() {
+    let (mut orders, mut rings, mut unknown) = (0, 0, 0);
+    for index in 0..1_500 {
+        let accepted = accepted(many_ranks::any_run, 24, index);
+        let start = Start::zero(&accepted.program);
+        if let Verdict::Order(order) = &accepted.verdict {
+            judge_order(&accepted, &start, order)
+                .unwrap_or_else(|fault| panic!("seed 24, index {index}: {fault}"));
+        }
+        let ended = judge_bounded(&accepted, &start, 500)
+            .unwrap_or_else(|fault| panic!("seed 24, index {index}: {fault}"));
+        match &accepted.verdict {
+            _ if !ended => unknown += 1,
+            Verdict::Order(_) => orders += 1,
+            Verdict::Ring(_) => rings += 1,
+        }
+    }
+    println!("many ranks: {orders} orders, {rings} rings, {unknown} given up");
+    assert!(orders >= 500 && rings >= 100);
 }

@@ -322,3 +322,20 @@ fn no_value_told_of_a_listing() {
         told(listed(program, record, text).number, usize::MAX)
     });
 }
+
+#[test]
+fn a_rank_of_two_digits_printed_as_one() {
+    assert_lines_caught(&|accepted| with_groups(accepted, |group| group.rank %= 10));
+}
+
+#[test]
+fn cells_of_ranks_above_8_left_out() {
+    assert_lines_caught(&|accepted| {
+        filtered(accepted, |line| {
+            let mut words = line.split(' ');
+            let is_cell = words.next() == Some("cell");
+            let rank = words.next().and_then(|word| word.parse().ok());
+            !is_cell || rank < Some(9)
+        })
+    });
+}

@@ -301,3 +301,27 @@ fn the_first_item_replayed_and_the_records_values_copied_after_it() {
         Ok(step)
     });
 }
+
+#[test]
+fn a_remote_rank_above_8_refused() {
+    assert_steps_misjudged(&|program, machine, item| {
+        let step = machine.step(program, item)?;
+        let requests = machine.rank(item.act.rank()).requests.iter().flatten();
+        let mut cells = requests.flat_map(|request| [request.source, request.destination]);
+        if item.act.kind().is_transfer() && cells.any(|cell| cell.rank > 8) {
+            return Err(8);
+        }
+        Ok(step)
+    });
+}
+
+#[test]
+fn a_row_complete_after_rank_8() {
+    assert_steps_misjudged(&|program, machine, item| {
+        let step = machine.step(program, item)?;
+        if item.act.kind() == Kind::Bar && item.act.rank() == 8 {
+            machine.open_row = None;
+        }
+        Ok(step)
+    });
+}

@@ -1,5 +1,5 @@
-//! The harness must catch a subject that reads the fields of #107 in a wrong way: the count, map bit
-//! 7, and the transition's high byte.
+//! The harness must catch a subject that reads the fields of #105 and #107 in a wrong way: N and
+//! ranks; the count, map bit 7, and the transition's high byte.
 
 mod common;
 
@@ -33,8 +33,16 @@ enum Placed {
     Before,
 }
 
-/// How the fields of #107 are read.
+/// How the fields of #105 and #107 are read.
 struct Rules {
+    /// The largest N.
+    most_ranks: usize,
+    /// The largest rank of an item in a program of N ranks.
+    most_rank: fn(usize) -> usize,
+    /// The largest rank of an item's place in a program of N ranks.
+    most_owner: fn(usize) -> usize,
+    /// The rank that the replay takes for this one.
+    replayed_rank: fn(usize) -> usize,
     /// The numbers that the count byte may say.
     short_counts: RangeInclusive<usize>,
     /// The numbers that the two-byte count may say.
@@ -61,8 +69,12 @@ struct Rules {
     replayed: fn(usize) -> usize,
 }
 
-/// The rules of #107.
+/// The rules of #105 and #107.
 const RIGHT: Rules = Rules {
+    most_ranks: 16,
+    most_rank: |ranks| ranks,
+    most_owner: |ranks| ranks,
+    replayed_rank: |rank| rank,
     short_counts: 0..=128,
     long_counts: 129..=400,
     long_count: Placed::There,
@@ -96,7 +108,7 @@ impl Rules {
     fn read_program(&self, bytes: &[u8]) -> Outcome<Program> {
         let mut reader = ByteReader::new(bytes, 1);
         let mut header = [0; 5];
-        for (number, highest) in header.iter_mut().zip([16, 64, 16, 4, 64]) {
+        for (number, highest) in header.iter_mut().zip([self.most_ranks, 64, 16, 4, 64]) {
             *number = reader.byte_within(1..=highest, 2)?;
         }
         let [ranks, cells, registers, queues, states] = header;
@@ -161,7 +173,8 @@ impl Rules {
         kind: Kind,
         map: u8,
     ) -> Outcome<Item> {
-        let rank = reader.byte_within(1..=program.ranks, 5)?;
+        let rank = reader.byte_within(1..=(self.most_rank)(program.ranks), 5)?;
+        let rank = (self.replayed_rank)(rank).min(program.ranks);
         let pop = matches!(kind, Kind::PopA | Kind::PopB);
         let low_place = reader.place();
         let low = reader.byte()?.into();
@@ -181,7 +194,7 @@ impl Rules {
         read_high(reader, After::Low)?;
         let mut place = None;
         if map & 8 != 0 {
-            let rank = reader.byte_within(1..=program.ranks, 5)?;
+            let rank = reader.byte_within(1..=(self.most_owner)(program.ranks), 5)?;
             let cell = reader.word_within(below(program.cells), 5)?;
             place = Some(Cell { rank, cell });
         }
@@ -242,6 +255,67 @@ fn the_right_rules_are_not_caught() {
         &|program, record, order, cells| fill_bytes(RIGHT.accept(program, record), order, cells);
     assert_eq!(first_caught(subject), None);
     assert_eq!(first_misjudged(subject), None);
+}
+
+#[test]
+fn an_n_in_its_range_refused() {
+    for most_ranks in [8, 9, 15] {
+        assert_rules_misjudged(Rules {
+            most_ranks,
+            ..RIGHT
+        });
+    }
+}
+
+#[test]
+fn an_n_above_16_taken() {
+    for most_ranks in [17, 18, 32, 255] {
+        assert_rules_caught(Rules {
+            most_ranks,
+            ..RIGHT
+        });
+    }
+}
+
+#[test]
+fn a_rank_of_an_item_above_8_refused() {
+    assert_rules_misjudged(Rules {
+        most_rank: |ranks| ranks.min(8),
+        ..RIGHT
+    });
+}
+
+#[test]
+fn a_rank_of_an_item_above_n_taken() {
+    for most_rank in [|ranks| ranks + 1, |_| 16, |ranks: usize| ranks.max(8)] {
+        assert_rules_caught(Rules { most_rank, ..RIGHT });
+    }
+}
+
+#[test]
+fn a_rank_of_a_place_above_8_refused() {
+    assert_rules_misjudged(Rules {
+        most_owner: |ranks| ranks.min(8),
+        ..RIGHT
+    });
+}
+
+#[test]
+fn a_rank_of_a_place_above_n_taken() {
+    for most_owner in [|ranks| ranks + 1, |_| 16, |ranks: usize| ranks.max(8)] {
+        assert_rules_caught(Rules {
+            most_owner,
+            ..RIGHT
+        });
+    }
+}
+
+#[test]
+fn a_rank_cut_to_its_low_bits() {
+    assert_rules_misjudged(Rules {
+        replayed_rank: |rank| (rank - 1) % 8 + 1,
+        ..RIGHT
+    });
 }
 
 #[test]

@@ -46,8 +46,16 @@ fn own_order(
 
 #[test]
 fn its_records_own_order_for_every_run() {
-    let fault = assert_caught_and_misjudged(&|program, record, order, cells| {
+    assert_caught_and_misjudged(&|program, record, order, cells| {
         let changed = |answer| !matches!(answer, Answer::Refused(_));
+        own_order(changed, [program, record], [order, cells])
+    });
+}
+
+#[test]
+fn its_records_own_order_for_every_order() {
+    let fault = assert_caught_and_misjudged(&|program, record, order, cells| {
+        let changed = |answer| matches!(answer, Answer::Order(_));
         own_order(changed, [program, record], [order, cells])
     });
     assert_eq!(fault, "the order written out has another trace");

@@ -3,6 +3,8 @@
 pub mod base;
 pub mod chosen;
 pub mod extremes;
+pub mod parts;
+pub mod ranks;
 pub mod replay_table;
 pub mod row;
 pub mod slips;
@@ -47,6 +49,7 @@ pub fn files(seed: u64) -> Result<Vec<Named>, String> {
         chosen::refused_file(seed)?,
         slips::file(seed)?,
         transitions::file()?,
+        ranks::file()?,
     ])
 }
 

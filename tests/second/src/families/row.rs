@@ -2,6 +2,8 @@
 
 use crate::corpus::{Case, CheckCase, Expected};
 use crate::limits::Refusal;
+use crate::program::Program;
+use crate::record::{record_bytes, Item};
 
 /// The length of a list that is long enough for every short case.
 const ENTRIES: usize = 40;
@@ -23,6 +25,15 @@ pub struct Row {
     pub answer: Expected,
     /// The cells by hand; none on a refusal.
     pub cells: Vec<u16>,
+    /// The slip, if it is worked out by hand.
+    pub slip: Option<Vec<u8>>,
+    /// The listing, if it is worked out by hand.
+    pub listing: Option<String>,
+}
+
+/// The order of so many groups as they are numbered.
+pub fn own_order(groups: usize) -> Expected {
+    Expected::Order((0..groups as u16).collect())
 }
 
 impl Row {
@@ -42,7 +53,43 @@ impl Row {
             cell_entries: ENTRIES,
             answer: Expected::Refused(Refusal { number, place }),
             cells: Vec::new(),
+            slip: None,
+            listing: None,
         }
+    }
+
+    /// A row of a family that is accepted with this answer and these last cells; both lists are two
+    /// entries longer than they must be.
+    pub fn accepted(
+        family: &str,
+        what: &str,
+        (program, items): (&Program, &[Item]),
+        answer: Expected,
+        cells: Vec<u16>,
+    ) -> Row {
+        Row {
+            name: format!("{family}-{what}"),
+            program: program.to_bytes(),
+            record: record_bytes(items),
+            order_entries: items.len() + 2,
+            cell_entries: cells.len() + 2,
+            answer,
+            cells,
+            slip: None,
+            listing: None,
+        }
+    }
+
+    /// The same row with its slip by hand.
+    pub fn with_slip(mut self, slip: Vec<u8>) -> Row {
+        self.slip = Some(slip);
+        self
+    }
+
+    /// The same row with its listing by hand.
+    pub fn with_listing(mut self, listing: String) -> Row {
+        self.listing = Some(listing);
+        self
     }
 
     /// The same row with lists of other lengths, which its name tells.
@@ -56,14 +103,19 @@ impl Row {
     pub fn case(self) -> Result<Case, String> {
         let (order, cells) = (self.order_entries, self.cell_entries);
         let case = CheckCase::answered(self.name, self.program, self.record, order, cells);
-        let (answer, cells) = (self.answer, self.cells);
-        if (&case.answer, &case.cells) == (&answer, &cells) {
-            return Ok(Case::Check(case));
+        let by_hand = CheckCase {
+            answer: self.answer,
+            cells: self.cells,
+            slip: self.slip.or(case.slip.clone()),
+            listing: self.listing.unwrap_or(case.listing.clone()),
+            ..case.clone()
+        };
+        let case = Case::Check(case);
+        let by_hand = Case::Check(by_hand);
+        if case == by_hand {
+            return Ok(case);
         }
-        let found = format!("{:?} with cells {:?}", case.answer, case.cells);
-        let name = case.name;
-        Err(format!(
-            "{name}: {found}, by hand {answer:?} with cells {cells:?}"
-        ))
+        let (found, right) = (case.to_text(), by_hand.to_text());
+        Err(format!("{found}by hand\n{right}"))
     }
 }

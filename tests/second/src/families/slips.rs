@@ -9,7 +9,7 @@ use crate::limits::Refusal;
 const GENERATED: u64 = 60;
 
 /// A slip case by hand: what it is, N, slip, list length, and the counts or the refusal.
-type Row = (
+pub type Row = (
     &'static str,
     usize,
     &'static [u8],
@@ -72,11 +72,12 @@ const ROWS: [Row; 32] = [
     ("16-before-15", 2, &[3, 0, 1, 0, 2, 0], 0, Err((16, 5))),
 ];
 
-/// All slip cases; a case by hand that the second program answers otherwise is a fault.
-pub fn cases(seed: u64) -> Result<Vec<Case>, String> {
+/// Slip cases by hand, their names begun so; one that the second program answers otherwise is a
+/// fault.
+pub fn by_hand(family: &str, rows: &[Row]) -> Result<Vec<Case>, String> {
     let mut cases = Vec::new();
-    for (what, ranks, slip, entries, answer) in ROWS {
-        let case = SlipCase::answered(format!("slip-{what}"), ranks, slip.to_vec(), entries);
+    for &(what, ranks, slip, entries, answer) in rows {
+        let case = SlipCase::answered(format!("{family}-{what}"), ranks, slip.to_vec(), entries);
         let by_hand = answer
             .map(<[u16]>::to_vec)
             .map_err(|(number, place)| Refusal { number, place });
@@ -88,6 +89,12 @@ pub fn cases(seed: u64) -> Result<Vec<Case>, String> {
         }
         cases.push(Case::Slip(case));
     }
+    Ok(cases)
+}
+
+/// All slip cases: by hand, then generated.
+pub fn cases(seed: u64) -> Result<Vec<Case>, String> {
+    let mut cases = by_hand("slip", &ROWS)?;
     for index in 0..GENERATED {
         let input = slip_input_of_document_01(seed, index);
         let name = format!("slip-generated-{index}");

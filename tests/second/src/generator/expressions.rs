@@ -64,11 +64,6 @@ pub fn expression(rng: &mut Rng, scope: Scope, role: Role, operators: usize) -> 
     }
 }
 
-/// A binary expression.
-fn binary(operator: Operator, first: Expression, second: Expression) -> Expression {
-    Expression::Binary(operator, Box::new(first), Box::new(second))
-}
-
 /// An expression of constants alone that has this value, wrapping around where it may.
 pub fn constant(rng: &mut Rng, value: u16, operators: usize) -> Expression {
     if operators == 0 || rng.chance(1, 3) {
@@ -90,7 +85,7 @@ pub fn constant(rng: &mut Rng, value: u16, operators: usize) -> Expression {
     };
     let first = constant(rng, first, left);
     let second = constant(rng, second, right);
-    binary(operator, first, second)
+    Expression::binary(operator, first, second)
 }
 
 /// An expression that has this value at one rank and may have others elsewhere.
@@ -104,15 +99,15 @@ fn by_rank(rng: &mut Rng, scope: Scope, value: u16, operators: usize) -> Express
     match rng.below(3) {
         0 => {
             let shift = constant(rng, value.wrapping_sub(rank), rest);
-            binary(Operator::Sum, Expression::OwnRank, shift)
+            Expression::binary(Operator::Sum, Expression::OwnRank, shift)
         }
         1 => {
             let named = constant(rng, rank, rest);
-            binary(Operator::Equal, Expression::OwnRank, named)
+            Expression::binary(Operator::Equal, Expression::OwnRank, named)
         }
         _ => {
             let named = constant(rng, rank, rest);
-            binary(Operator::Less, Expression::OwnRank, named)
+            Expression::binary(Operator::Less, Expression::OwnRank, named)
         }
     }
 }
@@ -120,12 +115,12 @@ fn by_rank(rng: &mut Rng, scope: Scope, value: u16, operators: usize) -> Express
 /// An expression for a remote rank: fixed, the own one, N, or the opposite one.
 fn remote_rank(rng: &mut Rng, scope: Scope, operators: usize) -> Expression {
     if operators >= 2 && rng.chance(1, 3) {
-        let one_more = binary(
+        let one_more = Expression::binary(
             Operator::Sum,
             Expression::RankCount,
             Expression::Constant(1),
         );
-        return binary(Operator::Difference, one_more, Expression::OwnRank);
+        return Expression::binary(Operator::Difference, one_more, Expression::OwnRank);
     }
     match rng.below(8) {
         0 => Expression::OwnRank,
@@ -151,5 +146,5 @@ pub fn free(rng: &mut Rng, program: &Program, operators: usize) -> Expression {
     let operator = *rng.pick(&OPERATORS);
     let first = free(rng, program, left);
     let second = free(rng, program, operators - 1 - left);
-    binary(operator, first, second)
+    Expression::binary(operator, first, second)
 }

@@ -11,7 +11,7 @@ use crate::program::{Kind, Program, Transition};
 const SHORT: Profile = Profile {
     size: SMALL,
     items: 44,
-    groups: 5,
+    groups: 6,
 };
 
 /// A random small run, for the exhaustive judge.
@@ -42,13 +42,13 @@ pub fn any_run(rng: &mut Rng) -> Run {
     run(rng, profile)
 }
 
-/// A random run of a program with more than eight ranks; half of the programs have a bar from each
+/// A random run of a program with more than eight ranks; one in three programs has a bar from each
 /// state, so that rows come about.
 fn run(rng: &mut Rng, profile: Profile) -> Run {
     let ranks = many(rng);
     let busy = busy(rng, ranks);
     let mut program = program_of(rng, profile.size, ranks, &busy);
-    if rng.chance(1, 2) {
+    if rng.chance(1, 3) {
         add_bars(rng, &mut program);
     }
     executed(rng, program, &busy, profile)
@@ -64,12 +64,12 @@ fn many(rng: &mut Rng) -> usize {
 /// The busy ranks of a run: all of them now and then, and else a few, mostly those about the eighth
 /// and the last, so that accesses meet.
 fn busy(rng: &mut Rng, ranks: usize) -> Vec<usize> {
-    if rng.chance(1, 4) {
+    if rng.chance(1, 6) {
         return every_rank(ranks);
     }
     let some = rng.within(1..=ranks);
     let edges = [1, 8, 9, ranks - 1, ranks, ranks, some];
-    let count = rng.within(1..=4);
+    let count = rng.within(2..=3);
     (0..count).map(|_| *rng.pick(&edges)).collect()
 }
 

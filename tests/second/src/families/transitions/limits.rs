@@ -35,7 +35,7 @@ fn longest_expression(value: u16) -> Expression {
     let mut sum = Expression::Constant(value);
     for _ in 0..7 {
         let zero = Expression::Constant(0);
-        sum = Expression::Binary(Operator::Sum, Box::new(sum), Box::new(zero));
+        sum = Expression::binary(Operator::Sum, sum, zero);
     }
     sum
 }

@@ -9,7 +9,7 @@ mod maps;
 mod replay;
 mod runs;
 
-use super::row::Row;
+use super::row::{own_order, Row};
 use super::{judge_accepted, Named};
 use crate::corpus::Expected;
 use crate::program::Program;
@@ -29,8 +29,7 @@ fn refused(what: &str, program: &Program, items: &[Item], number: u8, place: usi
     refused_bytes(what, inputs, number, place)
 }
 
-/// A row that is accepted with this answer and these last cells; both lists are two entries longer
-/// than they must be.
+/// A row that is accepted with this answer and these last cells.
 fn accepted(
     what: &str,
     program: &Program,
@@ -38,20 +37,7 @@ fn accepted(
     answer: Expected,
     cells: Vec<u16>,
 ) -> Row {
-    Row {
-        name: format!("{FAMILY}-{what}"),
-        program: program.to_bytes(),
-        record: record_bytes(items),
-        order_entries: items.len() + 2,
-        cell_entries: cells.len() + 2,
-        answer,
-        cells,
-    }
-}
-
-/// The order of so many groups as they are numbered.
-fn own_order(groups: usize) -> Expected {
-    Expected::Order((0..groups as u16).collect())
+    Row::accepted(FAMILY, what, (program, items), answer, cells)
 }
 
 /// All rows.

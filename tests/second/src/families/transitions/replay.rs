@@ -3,7 +3,7 @@
 
 use super::build::{
     assign, assume, at, bar, cells, command, giving, idle, load, popa, popb, read, sparse, store,
-    write,
+    with_operand, write,
 };
 use super::{accepted, own_order, refused};
 use crate::corpus::Expected;
@@ -93,8 +93,7 @@ fn evaluated() -> Vec<Row> {
     let loaded = giving(at(command(Kind::Load, 1, 257), 0), 0);
     let written = command(Kind::Write, 1, 257);
     let asked = command(Kind::Read, 1, 257);
-    let mut other_queue = write(0, 2, 0);
-    other_queue.expressions[3] = Expression::Constant(1);
+    let other_queue = with_operand(write(0, 2, 0), 3, Expression::Constant(1));
     vec![
         of("store-cell-8", store(8, 1), store(0, 1), stored),
         of("load-cell-256", load(256), load(0), loaded),
