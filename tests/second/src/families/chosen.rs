@@ -4,7 +4,7 @@ use super::Named;
 use crate::check::{accept, Accepted, Answer};
 use crate::corpus::{Case, CheckCase, Expected};
 use crate::generator::rng::Rng;
-use crate::generator::{input_of_document_01, small_run};
+use crate::generator::{input_of_document_01, small_run, Maker};
 use crate::judge::judge;
 use crate::limits::{Refusal, MAX_RANKS, MAX_SHORT_MAP_RANKS};
 use crate::machine::Start;
@@ -13,7 +13,7 @@ use crate::program::Kind;
 use crate::record::record_bytes;
 use std::collections::{BTreeMap, BTreeSet};
 
-/// How many cases each class of judged runs has for each kind that its groups may have.
+/// How many cases each class of `judged.txt` has for each kind that its groups may have.
 const PER_KIND: usize = 9;
 /// How many cases each refusal number has.
 const PER_NUMBER: usize = 12;
@@ -48,13 +48,38 @@ fn kinds(accepted: &Accepted) -> BTreeSet<Kind> {
     accepted.verdict.groups().iter().map(kind_of).collect()
 }
 
-/// Judged runs: for each class and each kind of group some runs that list such a group.
+/// The file of judged runs.
 pub fn judged_file(seed: u64) -> Result<Named, String> {
+    let cases = judged_cases(&Source {
+        family: "judged",
+        maker: small_run,
+        seed,
+        per_kind: PER_KIND,
+    })?;
+    let head = "# Small accepted runs; each order or ring confirmed by the exhaustive judge.\n";
+    Ok(Named::new("judged.txt", head, &cases))
+}
+
+/// Where judged runs come from.
+pub struct Source {
+    /// What the cases' names begin with.
+    pub family: &'static str,
+    /// How a run is made.
+    pub maker: Maker,
+    /// The seed.
+    pub seed: u64,
+    /// How many cases each class has for each kind that its groups may have.
+    pub per_kind: usize,
+}
+
+/// Judged runs: for each class and each kind of group some runs that list such a group.
+pub fn judged_cases(source: &Source) -> Result<Vec<Case>, String> {
+    let seed = source.seed;
     let mut wanted: BTreeMap<(Class, Kind), usize> = BTreeMap::new();
     for class in [Class::Ring, Class::Own, Class::Other] {
         for kind in crate::program::KINDS {
             if !matches!(kind, Kind::PopA | Kind::PopB) {
-                wanted.insert((class, kind), PER_KIND);
+                wanted.insert((class, kind), source.per_kind);
             }
         }
     }
@@ -63,24 +88,24 @@ pub fn judged_file(seed: u64) -> Result<Named, String> {
         if wanted.values().all(|&left| left == 0) {
             break;
         }
-        cases.extend(judged_case(seed, index, &mut wanted)?.map(Case::Check));
+        cases.extend(judged_case(source, index, &mut wanted)?.map(Case::Check));
     }
     if let Some((kind, left)) = wanted.iter().find(|(_, &left)| left > 0) {
         return Err(format!(
             "{left} judged runs of {kind:?} were not found under seed {seed}"
         ));
     }
-    let head = "# Small accepted runs; each order or ring confirmed by the exhaustive judge.\n";
-    Ok(Named::new("judged.txt", head, &cases))
+    Ok(cases)
 }
 
 /// The small run of this number as a case, if it has a kind of group still wanted in its class.
 fn judged_case(
-    seed: u64,
+    source: &Source,
     index: u64,
     wanted: &mut BTreeMap<(Class, Kind), usize>,
 ) -> Result<Option<CheckCase>, String> {
-    let (program, items) = small_run(&mut Rng::new(seed, index));
+    let seed = source.seed;
+    let (program, items) = (source.maker)(&mut Rng::new(seed, index));
     let (program, record) = (program.to_bytes(), record_bytes(&items));
     let accepted = accept(&program, &record)
         .map_err(|refusal| format!("seed {seed}, index {index}: refused, {refusal:?}"))?;
@@ -98,7 +123,7 @@ fn judged_case(
             *left = left.saturating_sub(1);
         }
     }
-    let name = format!("judged-{index}");
+    let name = format!("{}-{index}", source.family);
     let (groups, cells) = (
         accepted.grouping.groups.len(),
         accepted.run.last.ranks.len(),

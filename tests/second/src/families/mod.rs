@@ -49,7 +49,7 @@ pub fn files(seed: u64) -> Result<Vec<Named>, String> {
         chosen::refused_file(seed)?,
         slips::file(seed)?,
         transitions::file()?,
-        ranks::file()?,
+        ranks::file(seed)?,
     ])
 }
 

@@ -4,7 +4,7 @@ use super::programs::{every_rank, program_of, CROWDED, SMALL, WIDE};
 use super::rng::Rng;
 use super::widen::Run;
 use super::{executed, Profile};
-use crate::limits::{MAX_RANKS, MAX_SHORT_MAP_RANKS};
+use crate::limits::{MAX_CELLS, MAX_RANKS, MAX_SHORT_MAP_RANKS};
 use crate::program::{Kind, Program, Transition};
 
 /// Short runs of few groups, for the exhaustive judge: two rows of all ranks fit into them.
@@ -43,13 +43,16 @@ pub fn any_run(rng: &mut Rng) -> Run {
 }
 
 /// A random run of a program with more than eight ranks; one in three programs has a bar from each
-/// state, so that rows come about.
+/// state, so that rows come about, and one in ten has all the cells.
 fn run(rng: &mut Rng, profile: Profile) -> Run {
     let ranks = many(rng);
     let busy = busy(rng, ranks);
     let mut program = program_of(rng, profile.size, ranks, &busy);
     if rng.chance(1, 3) {
         add_bars(rng, &mut program);
+    }
+    if rng.chance(1, 10) {
+        program.cells = MAX_CELLS;
     }
     executed(rng, program, &busy, profile)
 }

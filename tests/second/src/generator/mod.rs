@@ -207,7 +207,7 @@ impl Edition {
 }
 
 /// A way to make a random run.
-type Maker = fn(&mut Rng) -> Run;
+pub type Maker = fn(&mut Rng) -> Run;
 
 /// A run of one or the other making, one in five of more than eight ranks; now and then widened.
 pub fn later_run(rng: &mut Rng, few_ranks: Maker, many_ranks: Maker) -> Run {

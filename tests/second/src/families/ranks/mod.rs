@@ -1,5 +1,6 @@
 //! Cases of document 02's #105, sixteen ranks: N of 8, 9, 15 and 16 wherever a rank or N appears.
-//! Numbers, places, orders, rings, cells, slips and listings worked out by hand.
+//! Numbers, places, orders, rings, cells, slips and listings worked out by hand; then small runs
+//! that the exhaustive judge confirms.
 
 mod fields;
 mod header;
@@ -9,9 +10,11 @@ mod runs;
 mod slip_reader;
 mod slip_writer;
 
+use super::chosen::{judged_cases, Source};
 use super::row::{own_order, Row};
 use super::{judge_accepted, Named};
 use crate::corpus::Expected;
+use crate::generator::many_ranks;
 use crate::program::{Program, Transition};
 use crate::record::{record_bytes, Item};
 
@@ -20,6 +23,8 @@ const FAMILY: &str = "ranks";
 /// The numbers of ranks about each limit: the last with a map of one byte, the first with a map of
 /// two, the last that N may not reach, and the most.
 const SIZES: [usize; 4] = [8, 9, 15, 16];
+/// How many judged runs each class has for each kind that its groups may have.
+const JUDGED_PER_KIND: usize = 3;
 /// Cells of each rank, unless a case says otherwise.
 const CELLS: usize = 2;
 
@@ -82,13 +87,21 @@ fn rows() -> Vec<Row> {
 
 /// The file of #105; a row that the second program answers otherwise is a fault, and so is an
 /// order or ring that the searches do not confirm.
-pub fn file() -> Result<Named, String> {
+pub fn file(seed: u64) -> Result<Named, String> {
     let mut cases = Vec::new();
     for row in rows() {
         judge_accepted(&row.program, &row.record)?;
         cases.push(row.case()?);
     }
     cases.extend(slip_reader::cases()?);
-    let head = "# Sixteen ranks, #105 of document 02; all answers worked out by hand.\n";
+    cases.extend(judged_cases(&Source {
+        family: "ranks-judged",
+        maker: many_ranks::small_run,
+        seed,
+        per_kind: JUDGED_PER_KIND,
+    })?);
+    let head =
+        "# Sixteen ranks, #105 of document 02; answers worked out by hand, and after them small \
+        runs\n# confirmed by the exhaustive judge.\n";
     Ok(Named::new("ranks.txt", head, &cases))
 }
