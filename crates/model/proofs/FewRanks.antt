@@ -1,7 +1,7 @@
 -- A limit of ranks that a program stays within makes no difference to it: two formats that differ in their most ranks alone give it the same answer,
--- lists, slip and listing, whatever record and lent memory come with it, and refuse the same with the same place (document 02, #105: "The verdict on
--- small runs is to be shown unchanged"). So do they with a slip of so many ranks, and the map of at most eight is a byte ("kept slips of smaller
--- machines read as they did").
+-- lists, slip and listing, whatever record and lent memory come with it, and refuse the same with the same place. Today's format is
+-- `upTo maxRanks today`, and before #105 it was `upTo byteRanks today`: "The verdict on small runs is to be shown unchanged". So do they with a slip
+-- of so many ranks, and the map of at most eight is a byte: "kept slips of smaller machines read as they did".
 use Prim.Native.Nat.{ℕ, _≤_}
 use mathlib.Core.Path.{_≡_}
 use mathlib.Core.List.{List, [], _∷_}

@@ -105,13 +105,7 @@ fn read_map(slip: &[u8], ranks: u16) -> Field
     requires { ⌜ ranks ≤ maxRanks ⌝ }
     ensures { λ r. ⌜ r ≡ fieldOf (mapReader ranks (now (slip .entry)) 0) ⌝ }
 {
-    within(
-        map_field(slip, ranks),
-        0,
-        0,
-        full_map(ranks),
-        SLIP_FORM,
-    )
+    within(map_field(slip, ranks), 0, 0, full_map(ranks), SLIP_FORM)
 }
 
 // The counts of the ranks, 0 for one without a bit. "N outside 1..8 .. is 16 at byte 0"; document 02, #105: "The reader takes N 1..16."
