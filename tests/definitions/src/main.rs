@@ -6,6 +6,7 @@ mod theorems;
 
 use second::corpus::Case;
 use second::corpus_reader::read_file;
+use std::cmp::Reverse;
 use std::fs;
 use std::path::Path;
 use std::process::ExitCode;
@@ -34,7 +35,7 @@ use Rattle.model.specs.declared.Answer.{Answer}
 use Rattle.model.specs.declared.Filled.{Filled}
 use Rattle.model.specs.Formats.{itemMaps}
 use Rattle.model.specs.Checks.{checkIn, check, checkBytesIn, checkBytes}
-use Rattle.model.specs.Slips.{writeSlipIn, writeSlip, readSlip}
+use Rattle.model.specs.Slips.{writeSlipIn, writeSlip, readSlipIn, readSlip}
 use Rattle.model.specs.Listings.{listingIn, listing}
 ";
 
@@ -79,12 +80,14 @@ fn copy_model(from: &Path, to: &Path) -> Result<(), String> {
     Ok(())
 }
 
-/// What a definition computes by: all but the slip's reader are those of today's format.
+/// What a definition computes by, in today's format. The slip's reader reads no items.
 fn unfolded(definition: &str) -> String {
-    match definition {
-        "readSlip" => definition.to_string(),
-        _ => format!("itemMaps {definition}In"),
-    }
+    let maps = if definition == "readSlip" {
+        ""
+    } else {
+        "itemMaps "
+    };
+    format!("{maps}{definition}In")
 }
 
 /// The text of a file of theorems.
@@ -99,11 +102,25 @@ fn file_of(theorems: &[Named]) -> String {
     text
 }
 
+/// Shares the theorems out, so that no crate takes much longer to check than another: the longest first, each to the crate that has least.
+fn shared(mut theorems: Vec<Named>) -> Vec<Vec<Named>> {
+    let mut lengths = CRATES.map(|_| 0);
+    let mut shares = CRATES.map(|_| vec![]);
+    theorems.sort_by_key(|(_, theorem)| Reverse(theorem.arguments.len()));
+    for named in theorems {
+        let least = (0..CRATES.len()).min_by_key(|&share| lengths[share]);
+        let share = least.unwrap_or_default();
+        lengths[share] += named.1.arguments.len();
+        shares[share].push(named);
+    }
+    shares.into()
+}
+
 /// Writes a crate of theorems on the definitions.
-fn write_crate(folder: &Path, files: &[&[Named]]) -> Result<(), String> {
+fn write_crate(folder: &Path, theorems: &[Named]) -> Result<(), String> {
     put(&folder.join("src/lib.rt"), "// Theorems only.\n")?;
     let mut modules = String::new();
-    for (number, theorems) in files.iter().enumerate() {
+    for (number, theorems) in theorems.chunks(PER_FILE).enumerate() {
         put(
             &folder.join(format!("proofs/Part{number}.antt")),
             &file_of(theorems),
@@ -129,21 +146,16 @@ fn write(repository: &Path, out: &Path, files: &[String]) -> Result<String, Stri
         .into_iter()
         .flat_map(|(case, theorems)| theorems.into_iter().map(|theorem| (case.name(), theorem)))
         .collect();
+    let written = theorems.len();
     copy_model(&repository.join("crates/model"), &out.join("crates/model"))?;
     let mut crates = String::from("model:\n");
-    for (number, name) in CRATES.iter().enumerate() {
-        let own: Vec<&[Named]> = theorems
-            .chunks(PER_FILE)
-            .skip(number)
-            .step_by(CRATES.len())
-            .collect();
-        write_crate(&out.join("crates").join(name), &own)?;
+    for (name, theorems) in CRATES.iter().zip(shared(theorems)) {
+        write_crate(&out.join("crates").join(name), &theorems)?;
         crates += &format!("{name}: model\n");
     }
     put(&out.join("crates.txt"), &crates)?;
     Ok(format!(
-        "{} theorems on {count} cases; {left} longer cases left out",
-        theorems.len()
+        "{written} theorems on {count} cases; {left} longer cases left out"
     ))
 }
 
