@@ -36,8 +36,8 @@ const SECOND_CALLS: usize = 2;
 const RUN_B_CALLS: usize = 20_000;
 /// Bytes that are enough for every answer.
 const ORDER_BYTES: usize = 2 * 1024;
-const CELL_BYTES: usize = 2 * 8 * 64;
-const TEXT_BYTES: usize = 33_803;
+const CELL_BYTES: usize = 2 * 16 * 64;
+const TEXT_BYTES: usize = 44_043;
 
 /// What is measured.
 const MEASURED: &str = "\

@@ -5,7 +5,7 @@ use second::program::{Kind, Program, Transition};
 use second::record::Act;
 
 /// N, A, R and Q: all at their limits.
-const RANKS: usize = 8;
+const RANKS: usize = 16;
 const CELLS: usize = 64;
 const REGISTERS: usize = 16;
 const QUEUES: usize = 4;
