@@ -15,9 +15,10 @@ use theorems::Theorem;
 /// Cases of so many bytes are computed whole, by every definition.
 const LONGEST: usize = 160;
 
-/// Of longer ones, which the checker computes slowly, the runs that are an order or a ring are computed by the check alone, up to so many bytes:
-/// programs of 400 short transitions among them.
-const LONGEST_RUN: usize = 1_700;
+/// Of longer ones, which the checker computes slowly, the runs that are an order or a ring are computed by the check alone: programs of up to so
+/// many bytes, 400 short transitions among them, with records of up to so many.
+const LONGEST_PROGRAM: usize = 1_700;
+const LONGEST_RECORD: usize = 130;
 
 /// Theorems to a file, so that none is long to check.
 const PER_FILE: usize = 40;
@@ -47,9 +48,9 @@ fn theorems_of(case: &Case) -> Vec<Theorem> {
     let Case::Check(check) = case else {
         return theorems::of_case(case);
     };
-    match check.program.len() + check.record.len() {
-        0..=LONGEST => theorems::of_case(case),
-        0..=LONGEST_RUN => theorems::of_run(check).into_iter().collect(),
+    match (check.program.len(), check.record.len()) {
+        (program, record) if program + record <= LONGEST => theorems::of_case(case),
+        (0..=LONGEST_PROGRAM, 0..=LONGEST_RECORD) => theorems::of_run(check).into_iter().collect(),
         _ => vec![],
     }
 }

@@ -24,16 +24,23 @@ atStart c = c .before .before .before
 loop-holds : tie.Need-loop-holds Inv-loop μ-loop
 loop-holds c = turn-cleared (c .before .before .pre) _
 
+-- From the last array that is lent for an item back to the first.
+abbrev atLinked : (c : tie.After-links Inv-loop μ-loop) → tie.After-commands Inv-loop μ-loop
+atLinked c = c .before .before .before
+
 draw-item-requires : tie.Need-draw-item-requires Inv-loop μ-loop
 draw-item-requires c κs =
-    let atTest = c .before .before .before .before .before in
+    let atCommands = atLinked (c .before) in
+    let atTest = atCommands .before in
     let few = atStart (atTest .before) .pre .few in
     omega (arith, atTest .loop-test .taken, few)
 
 loop-again : tie.Need-loop-again Inv-loop μ-loop
 loop-again c =
-    let atDrawn = c .before .before .before .before .before .before in
-    let atTest = atDrawn .before .before .before .before .before .before in
+    let atWrites = c .before .before .before in
+    let atDrawn = atWrites .before .before .before in
+    let atCommands = atLinked (atDrawn .before .before) in
+    let atTest = atCommands .before in
     let asked = atStart (atTest .before) .pre in
     turn-next (atTest .before .loop .inv) (asked .few) (asked .inside) (atTest .loop-test .taken) (atDrawn .draw-item .ensures)
 

@@ -13,19 +13,24 @@ small-requires c κs =
 
 large-requires : tie.Need-draw-items-requires-2
 large-requires c κs =
-    let atRows = c .before .before .before .before .before in
+    let atLarge = c .before .before .before in
+    let atRows = atLarge .before .before in
     made-cleared maxAddresses (rows-few _ (atRows .rows-told .ensures)) (inside-any _ _)
 
 returns : tie.Need-returns
 returns c =
     let atDrawn = c .before .before in
-    let atRows = atDrawn .before .before .before .before .before .before in
+    let atNewest = atDrawn .before .before in
+    let atSmall = atNewest .before .before in
+    let atRows = atSmall .before .before in
     rows-drawn _ _ _ (atRows .rows-told .ensures) (atDrawn .draw-items .ensures)
 
 returns-2 : tie.Need-returns-2
 returns-2 c =
     let atDrawn = c .before .before in
-    let atRows = atDrawn .before .before .before .before .before .before in
+    let atNewest = atDrawn .before .before in
+    let atLarge = atNewest .before .before in
+    let atRows = atLarge .before .before in
     rows-drawn _ _ _ (atRows .rows-told .ensures) (atDrawn .draw-items2 .ensures)
 
 pub edges-of-spec : {M : Type 1} → statement M

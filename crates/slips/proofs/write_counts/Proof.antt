@@ -32,14 +32,17 @@ part-write-words-start c = sub-write-words c
 same-length : tie.Need-same-length
 same-length c =
     let atPut = c .before in
-    let atMapPut = atPut .before .before .before .before .before .before in
+    let atCount = atPut .before .before in
+    let atLent = atCount .before .before in
+    let atMapPut = atLent .before .before in
     atPut .slip2 .given .1 ∙ atMapPut .slip .given
 
 returns-2 : tie.Need-returns-2
 returns-2 c =
     let atWritten = c .before .before in
     let atCount = atWritten .before in
-    let atMapped = atCount .before .before .before .before .before in
+    let atLent = atCount .before .before in
+    let atMapped = atLent .before .before .before in
     let atBehind = atMapped .before .before in
     let atListed = atBehind .before in
     let atLength = atListed .before .before in
