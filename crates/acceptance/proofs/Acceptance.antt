@@ -5,12 +5,13 @@ use mathlib.Core.List.{List}
 use mathlib.Core.Logic.{_↔_}
 use Rattle.model.specs.declared.Item.{Item}
 use Rattle.model.specs.Refusals.{ok}
+use Rattle.model.specs.Choice.{Each, all, one}
 use Rattle.model.specs.ItemKinds.{Part, command, fetch, delivery, partOf}
 use Rattle.model.specs.Programs.{Program}
 use Rattle.model.specs.Machine.{Start}
 use Rattle.model.specs.Rules.{Bare, IsRun}
 use Rattle.model.specs.Replay.{Replayed, replay}
-use Rattle.model.specs.Traces.{Each, all, one, ChosenIn, InRecord}
+use Rattle.model.specs.Traces.{ChosenIn, InRecord}
 use Rattle.acceptance.specs.Bare.{bare}
 use Rattle.acceptance.specs.Ranges.{QueueIn, InRange}
 use Rattle.acceptance.proofs.Soundness.{accepted-run}

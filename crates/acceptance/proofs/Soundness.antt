@@ -12,13 +12,12 @@ use borrow.Author.Tests.{eqb-true}
 use Rattle.model.specs.declared.Kind.the-variants.{Bar}
 use Rattle.model.specs.declared.Item.{Item}
 use Rattle.model.specs.Refusals.{ok, barrierRow, queuesLeft}
-use Rattle.model.specs.Choice.{numbersFrom}
+use Rattle.model.specs.Choice.{numbersFrom, Each}
 use Rattle.model.specs.ItemKinds.{isBar}
 use Rattle.model.specs.Programs.{Program, Command}
 use Rattle.model.specs.Machine.{Start, moveTo}
 use Rattle.model.specs.Rules.{Bare, Label, command, Enabled, Step, Run, stop, _then_, Recorded, AllRecorded, all, one, IsRun}
 use Rattle.model.specs.Replay.{Replay, Taken, Replayed, begin, takeItem, takeItems, quiet, atEnd, replay}
-use Rattle.model.specs.Traces.{Each}
 use Rattle.model.proofs.Replay.{ItemTaken, item-taken}
 use Rattle.model.proofs.Laws.{bind-ok, required, ok-injective, decided, when-true, when-false}
 use Rattle.acceptance.specs.Bare.{bare}

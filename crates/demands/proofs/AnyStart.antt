@@ -5,6 +5,7 @@ use mathlib.Core.List.{List}
 use mathlib.Core.Logic.{_↔_, _⊎_}
 use Rattle.model.specs.declared.Item.{Item}
 use Rattle.model.specs.Refusals.{ok}
+use Rattle.model.specs.Choice.{Each}
 use Rattle.model.specs.Bytes.{AreBytes}
 use Rattle.model.specs.Programs.{Program, readProgram}
 use Rattle.model.specs.Records.{readRecord}
@@ -12,7 +13,7 @@ use Rattle.model.specs.Machine.{Start}
 use Rattle.model.specs.Rules.{Bare}
 use Rattle.model.specs.Replay.{Event, replay}
 use Rattle.model.specs.HappensBefore.{At, HappensBefore, edgesOf}
-use Rattle.model.specs.Traces.{Each, InRecord}
+use Rattle.model.specs.Traces.{InRecord}
 use Rattle.model.specs.Orders.{ordered, cyclic}
 use Rattle.model.specs.Checks.{acceptIn, accept, verdictOn, Accepted}
 use Rattle.model.proofs.Laws.{bind-ok, ok-injective}

@@ -26,10 +26,10 @@ module _ (P : Program) (r : ℕ) (registers : ℕ → ℕ) where
     passing : {e : Expression} → 0 < value e → Asks (assume e) passes
     reading : {e₁ e₂ e₃ e₄ : Expression} → Operands P r registers e₁ e₂ e₃ e₄ →
         Asks (read e₁ e₂ e₃ e₄)
-        (issues (value e₄) (address (value e₂) (value e₃)) (address r (value e₁)))
+        (issues (value e₄) (value e₂) (address (value e₂) (value e₃)) (address r (value e₁)))
     writing : {e₁ e₂ e₃ e₄ : Expression} → Operands P r registers e₁ e₂ e₃ e₄ →
         Asks (write e₁ e₂ e₃ e₄)
-        (issues (value e₄) (address r (value e₁)) (address (value e₂) (value e₃)))
+        (issues (value e₄) (value e₂) (address r (value e₁)) (address (value e₂) (value e₃)))
     meeting : Asks bar meets
 
   -- A transfer whose operands are in their domains.
@@ -101,12 +101,12 @@ module _ (P : Program) (r : ℕ) (registers : ℕ → ℕ) where
   action-asks at (read e₁ e₂ e₃ e₄) h =
       let (t, p, q) = bind-ok (transfer P r registers at e₁ e₂ e₃ e₄) _ h in
       let found = transfer-ok at e₁ e₂ e₃ e₄ p in
-      let same = ap (λ (u : Transfer). issues (u .queue) (u .remote) (u .own)) (found .1) ∙ ok-injective q in
+      let same = ap (λ (u : Transfer). issues (u .queue) (u .remote .rank) (u .remote) (u .own)) (found .1) ∙ ok-injective q in
       subst (Asks (read e₁ e₂ e₃ e₄)) same (reading (found .0))
   action-asks at (write e₁ e₂ e₃ e₄) h =
       let (t, p, q) = bind-ok (transfer P r registers at e₁ e₂ e₃ e₄) _ h in
       let found = transfer-ok at e₁ e₂ e₃ e₄ p in
-      let same = ap (λ (u : Transfer). issues (u .queue) (u .own) (u .remote)) (found .1) ∙ ok-injective q in
+      let same = ap (λ (u : Transfer). issues (u .queue) (u .remote .rank) (u .own) (u .remote)) (found .1) ∙ ok-injective q in
       subst (Asks (write e₁ e₂ e₃ e₄)) same (writing (found .0))
   action-asks at bar h = subst (Asks bar) (ok-injective h) meeting
 

@@ -11,8 +11,8 @@ use borrow.Author.Tests.{eqb-true, lt-ltb}
 use Rattle.model.specs.Limits.{byteValues, wordValues}
 use Rattle.model.specs.Refusals as Refusals
 use Rattle.model.specs.Refusals.{ok}
+use Rattle.model.specs.Choice.{Each, all, one}
 use Rattle.model.specs.Bytes.{AreBytes, Found, found, Reader, _>>=_, pure, byte, word, judged, optional, times, whole}
-use Rattle.model.specs.Traces.{Each, all, one}
 use Rattle.model.proofs.Laws.{refused≢ok, ok-injective, bind-ok, decided}
 
 -- A byte that was found is there and one byte long.

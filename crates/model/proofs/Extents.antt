@@ -12,11 +12,10 @@ use borrow.Author.Tests.{eqb-true, leb-true}
 use Rattle.model.specs.declared.Header.{Header}
 use Rattle.model.specs.Limits.{maxTokens, maxHeaderBytes, maxTransitionBytes, shortTransitions, maxTransitions, longCount}
 use Rattle.model.specs.Refusals.{programLength, programRange, programForm}
-use Rattle.model.specs.Choice.{between, bit, lookup}
+use Rattle.model.specs.Choice.{between, bit, lookup, all, one}
 use Rattle.model.specs.Bytes.{Reader, byte, judged}
 use Rattle.model.specs.Expressions.{Token, constantToken, registerToken, ownRankToken, rankCountToken, operatorToken, tokens, Counted, constant, noTokenLeft, onToken, afterToken, readExpression, expression}
 use Rattle.model.specs.Programs.{readFields, CommandForm, forms, judgedForm, readTransition, headerNumber, countByte, transitionCount, readHeaderIn, readHeader}
-use Rattle.model.specs.Traces.{all, one}
 use Rattle.model.proofs.Laws.{decided}
 use Rattle.model.proofs.Tables.{lookup-holds}
 use Rattle.model.proofs.Allowances.{Takes, takes-less, takes-over, takes-pure, takes-here, takes-fault, takes-bind, takes-byte, takes-word, takes-tested, cost, takes-optional}

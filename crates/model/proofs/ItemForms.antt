@@ -12,12 +12,11 @@ use borrow.Author.Tests.{eqb-true}
 use Rattle.model.specs.declared.Kind.{Kind}
 use Rattle.model.specs.declared.Kind.the-variants.{Load, Store, Assign, Assume, Read, Write, Popa, Popb, Bar}
 use Rattle.model.specs.declared.ItemForm.{ItemForm}
-use Rattle.model.specs.Choice.{bit, lookup, member}
-use Rattle.model.specs.ItemKinds.{kindNumber, itemKinds}
-use Rattle.model.specs.Formats.{OriginalMap, HasMap, original, with-high, originalMaps, itemMaps, Format, document01, today}
+use Rattle.model.specs.Choice.{bit, lookup, member, Each, all, one}
+use Rattle.model.specs.ItemKinds.{kindNumber, itemKinds, isCommandKind}
+use Rattle.model.specs.Formats.{OriginalMap, HasMap, original, with-high, with-remote, originalMaps, itemMaps, Format, document01, today}
 use Rattle.model.specs.ItemForms.{FormIs, good, unknown-kind, wrong-map, formOf, itemFormIn, itemForm, judgedItemForm}
 use Rattle.model.specs.Replay.{every}
-use Rattle.model.specs.Traces.{Each, all, one}
 use Rattle.model.proofs.Laws.{decided, refused≢ok}
 use Rattle.model.proofs.ItemKinds.{kind-found}
 use Rattle.model.proofs.Bytes.{Finds, finds-pure}
@@ -74,7 +73,7 @@ each-map-in {format} lists test passes {kind} {map} has =
     every-one (test kind) map (format .maps kind)
     (looked-up (λ _ k. every (test k) (format .maps k)) (kindNumber kind) itemKinds passes (kind-found kind)) (lists .listed has)
 
--- Today's case for each kind has document 01's maps, and with bit 7 those that have bit 1; and it has no others.
+-- Today's case for each kind has document 01's maps, with bit 7 those that have bit 1, and with bit 6 those of the pops; and it has no others.
 module _ {kind : Kind} {map : ℕ} (has : OriginalMap kind map) where
   kept : member map (itemMaps kind) ≡ true
   unfolding everyRow every member itemKinds originalMaps itemMaps
@@ -84,9 +83,14 @@ module _ {kind : Kind} {map : ℕ} (has : OriginalMap kind map) where
   unfolding everyRow every member itemKinds originalMaps itemMaps
   high-listed standing = rw standing at (each-map-in original-maps (λ k m. not (bit 1 m) || member (m + 128) (itemMaps k)) refl has)
 
+  remote-listed : isCommandKind kind ≡ false → member (map + 64) (itemMaps kind) ≡ true
+  unfolding everyRow every member itemKinds originalMaps itemMaps
+  remote-listed pops = rw pops at (each-map-in original-maps (λ k m. isCommandKind k || member (m + 64) (itemMaps k)) refl has)
+
 today-listed : {kind : Kind} {map : ℕ} → HasMap kind map → member map (itemMaps kind) ≡ true
 today-listed (original has) = kept has
 today-listed (with-high has standing) = high-listed has standing
+today-listed (with-remote has pops) = remote-listed has pops
 
 each-today : (kind : Kind) → Each (HasMap kind) (itemMaps kind)
 unfolding itemMaps
@@ -102,8 +106,14 @@ each-today Assign = one (original OriginalMap.assign) (one (with-high OriginalMa
 each-today Assume = one (original OriginalMap.assume) (one (with-high OriginalMap.assume refl) all)
 each-today Read = one (original OriginalMap.read) (one (with-high OriginalMap.read refl) all)
 each-today Write = one (original OriginalMap.write) (one (with-high OriginalMap.write refl) all)
-each-today Popa = one (original OriginalMap.popa) (one (original OriginalMap.popa-valued) all)
-each-today Popb = one (original OriginalMap.popb) (one (original OriginalMap.popb-valued) all)
+each-today Popa =
+    one (original OriginalMap.popa)
+    (one (original OriginalMap.popa-valued)
+    (one (with-remote OriginalMap.popa refl) (one (with-remote OriginalMap.popa-valued refl) all)))
+each-today Popb =
+    one (original OriginalMap.popb)
+    (one (original OriginalMap.popb-valued)
+    (one (with-remote OriginalMap.popb refl) (one (with-remote OriginalMap.popb-valued refl) all)))
 each-today Bar = one (original OriginalMap.bar) (one (with-high OriginalMap.bar refl) all)
 
 pub today-maps : Lists today HasMap

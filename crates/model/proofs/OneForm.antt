@@ -13,7 +13,7 @@ use lib.Arith.{digits-div, digits-mod}
 use lib.Dec.{ltb, leb, eqb}
 use lib.ListN.{length, drop}
 use lib.Seq.{drop-length}
-use borrow.Author.Tests.{eqb-true, ltb-true, le-leb, lt-leb}
+use borrow.Author.Tests.{eqb-true, ltb-true, lt-ltb, le-leb, lt-leb}
 use Rattle.model.specs.declared.Given.{Given}
 use Rattle.model.specs.declared.Given.the-variants.{Value, Absent}
 use Rattle.model.specs.declared.Header.{Header}
@@ -29,7 +29,7 @@ use Rattle.model.specs.Formats.{HasMap, itemMaps}
 use Rattle.model.specs.ItemForms.{FormIs, good, unknown-kind, wrong-map, judgedItemForm}
 use Rattle.model.specs.Records.{field, lowByte, highByte, givenValue, itemFields, readItemIn, readItem}
 use Rattle.model.specs.Replay.{every}
-use Rattle.model.proofs.Laws.{ok-injective, bind-ok, refused≢ok, and-true}
+use Rattle.model.proofs.Laws.{ok-injective, bind-ok, refused≢ok, and-true, between-true}
 use Rattle.model.proofs.Bytes.{judged-ok}
 use Rattle.model.proofs.Standing.{byte-stands, word-stands}
 use Rattle.model.proofs.Tables.{everyRow}
@@ -52,13 +52,14 @@ abbrev givenBytes : Given → List ℕ
 givenBytes (Value v) = wordBytes v
 givenBytes Absent = []
 
--- The one map of an item of this kind: a rank; a transition or a queue; a place where the kind has one; a value if it gives one; and a high byte if
--- the transition's number needs it.
-abbrev mapOf : Kind → (valued high : Bool) → ℕ
-mapOf kind valued high = 1 + flag (isCommandKind kind) 2 + flag (not (isCommandKind kind)) 4 + flag (hasPlace kind) 24 + flag valued 32 + flag high 128
+-- The one map of an item of this kind: a rank; a transition or a queue; a place where the kind has one; a value if it gives one; a remote rank if it
+-- names one; and a high byte if the transition's number needs it.
+abbrev mapOf : Kind → (valued named high : Bool) → ℕ
+mapOf kind valued named high =
+    1 + flag (isCommandKind kind) 2 + flag (not (isCommandKind kind)) 4 + flag (hasPlace kind) 24 + flag valued 32 + flag named 64 + flag high 128
 
 abbrev itemMap : Item → ℕ
-itemMap i = mapOf (i .kind) (isGiven (i .given)) (leb byteValues (i .transition))
+itemMap i = mapOf (i .kind) (isGiven (i .given)) (ltb 0 (i .remote)) (leb byteValues (i .transition))
 
 -- The bytes of an item, by its map.
 abbrev fieldBytes : (map : ℕ) → Item → List ℕ
@@ -69,7 +70,8 @@ fieldBytes map i =
     (part (bit 3 map) (i .place .rank ∷ []) ++
     (part (bit 4 map) (wordBytes (i .place .cell)) ++
     (givenBytes (i .given) ++
-    part (bit 7 map) (i .transition / byteValues ∷ []))))))
+    (part (bit 6 map) (i .remote ∷ []) ++
+    part (bit 7 map) (i .transition / byteValues ∷ [])))))))
 
 unfoldable pub itemBytes : Item → List ℕ
 itemBytes i = itemMap i ∷ kindNumber (i .kind) ∷ fieldBytes (itemMap i) i
@@ -127,8 +129,8 @@ module _ {bytes : List ℕ} where
   spans-part true absent written first = first
   spans-part false absent written first = spans-pure absent refl
 
--- What is said of a byte; of the low byte, whole number or not; of the value, whose bit stands exactly if there is one; and of the transition's
--- number: its low byte is the one that was read, and bit 7 stands exactly if it does not fit a byte.
+-- What is said of a byte; of the low byte, whole number or not; of the value and of the remote rank, whose bit stands exactly if there is one; and of
+-- the transition's number: its low byte is the one that was read, and bit 7 stands exactly if it does not fit a byte.
 record OneByte (v : ℕ) (out : List ℕ) : Type 0 where
   stands : out ≡ v ∷ []
   small : v < byteValues
@@ -141,6 +143,10 @@ record GivenStands (present : Bool) (given : Given) (out : List ℕ) : Type 0 wh
   stands : out ≡ givenBytes given
   told : isGiven given ≡ present
 
+record RemoteStands (present : Bool) (remote : ℕ) (out : List ℕ) : Type 0 where
+  stands : out ≡ part present (remote ∷ [])
+  told : ltb 0 remote ≡ present
+
 record Number (high : Bool) (low t : ℕ) (out : List ℕ) : Type 0 where
   stands : out ≡ part high (t / byteValues ∷ [])
   low-byte : t % byteValues ≡ low
@@ -152,18 +158,20 @@ record Judged (map number : ℕ) (kind : Kind) (out : List ℕ) : Type 0 where
   same : kindNumber kind ≡ number
   has : HasMap kind map
 
--- By its kind and these two bits, an item has no other map.
-map-is : {kind : Kind} {map : ℕ} → HasMap kind map → map ≡ mapOf kind (bit 5 map) (bit 7 map)
+-- By its kind and these three bits, an item has no other map.
+map-is : {kind : Kind} {map : ℕ} → HasMap kind map → map ≡ mapOf kind (bit 5 map) (bit 6 map) (bit 7 map)
 unfolding everyRow every itemKinds itemMaps
 map-is {kind} {map} has =
-    eqb-true map (mapOf kind (bit 5 map) (bit 7 map)) (each-map (λ k m. eqb m (mapOf k (bit 5 m) (bit 7 m))) refl has)
+    eqb-true map (mapOf kind (bit 5 map) (bit 6 map) (bit 7 map))
+    (each-map (λ k m. eqb m (mapOf k (bit 5 m) (bit 6 m) (bit 7 m))) refl has)
 
--- So an item whose two bits stand as they should has its own map.
-own-map : {map : ℕ} (i : Item) → HasMap (i .kind) map → isGiven (i .given) ≡ bit 5 map → leb byteValues (i .transition) ≡ bit 7 map →
-    map ∷ kindNumber (i .kind) ∷ fieldBytes map i ≡ itemBytes i
+-- So an item whose three bits stand as they should has its own map.
+own-map : {map : ℕ} (i : Item) → HasMap (i .kind) map → isGiven (i .given) ≡ bit 5 map → ltb 0 (i .remote) ≡ bit 6 map →
+    leb byteValues (i .transition) ≡ bit 7 map → map ∷ kindNumber (i .kind) ∷ fieldBytes map i ≡ itemBytes i
 unfolding itemBytes
-own-map i has valued high =
-    ap {B = List ℕ} (λ m. m ∷ kindNumber (i .kind) ∷ fieldBytes m i) (map-is has ∙ ap₂ (mapOf (i .kind)) (sym valued) (sym high))
+own-map {map} i has valued named high =
+    let same : mapOf (i .kind) (bit 5 map) (bit 6 map) (bit 7 map) ≡ itemMap i = rw (valued, named, high) in
+    ap {B = List ℕ} (λ m. m ∷ kindNumber (i .kind) ∷ fieldBytes m i) (map-is has ∙ same)
 
 module _ (bytes : List ℕ) (bound : AreBytes bytes) where
   spans-byte : (early : ℕ) → Spans bytes (byte early) OneByte
@@ -200,6 +208,12 @@ module _ (bytes : List ℕ) (bound : AreBytes bytes) where
       spans-pure (Value v) (record { stands = append-nil out ∙ is; told = refl })
   spans-given false = spans-pure Absent (record { stands = refl; told = refl })
 
+  spans-remote : (present : Bool) (ranks : ℕ) → Spans bytes (optional present 0 (field (between 1 ranks))) (RemoteStands present)
+  spans-remote true ranks =
+      spans-weaker (spans-field (between 1 ranks)) λ n out is.
+      record { stands = is .1 .stands; told = lt-ltb 0 n (between-true 1 ranks n (is .0) .low) }
+  spans-remote false ranks = spans-pure 0 (record { stands = refl; told = refl })
+
   spans-number : (high : Bool) (transitions low : ℕ) → low < byteValues →
       Spans bytes (optional high low (highByte transitions low)) (Number high low)
   unfolding highByte
@@ -227,7 +241,8 @@ module _ (bytes : List ℕ) (bound : AreBytes bytes) where
       (spans-part (bit 4 map) 0 wordBytes
       (spans-weaker (spans-judged (λ a. ltb a (header .cells)) recordRange (spans-word recordLength)) λ v out is. is .1)) λ place-cell out₄ is-cell.
       spans-bind (spans-given (bit 5 map)) λ given out₅ is-given.
-      spans-bind (spans-number (bit 7 map) (header .transitions) low (is-low .small)) λ transition out₆ is-number.
+      spans-bind (spans-remote (bit 6 map) (header .ranks)) λ remote out₆ is-remote.
+      spans-bind (spans-number (bit 7 map) (header .transitions) low (is-low .small)) λ transition out₇ is-number.
       let item : Item =
       record {
         kind = kind;
@@ -236,21 +251,23 @@ module _ (bytes : List ℕ) (bound : AreBytes bytes) where
         queue = queue;
         place = record { rank = place-rank; cell = place-cell };
         given = given;
+        remote = remote;
       } in
-      let fields : out₀ ++ (out₁ ++ (out₂ ++ (out₃ ++ (out₄ ++ (out₅ ++ (out₆ ++ [])))))) ≡ fieldBytes map item =
+      let fields : out₀ ++ (out₁ ++ (out₂ ++ (out₃ ++ (out₄ ++ (out₅ ++ (out₆ ++ (out₇ ++ []))))))) ≡ fieldBytes map item =
       rw (
-        append-nil out₆,
+        append-nil out₇,
         is-rank,
         is-low .stands,
         is-queue,
         is-place-rank,
         is-cell,
         is-given .stands,
+        is-remote .stands,
         is-number .stands,
         is-number .low-byte,
       ) in
       spans-pure item
-      (ap {B = List ℕ} (λ l. map ∷ kindNumber kind ∷ l) fields ∙ own-map item has (is-given .told) (is-number .told))
+      (ap {B = List ℕ} (λ l. map ∷ kindNumber kind ∷ l) fields ∙ own-map item has (is-given .told) (is-remote .told) (is-number .told))
 
   -- The item, from its map byte on.
   spans-verdict : (at : ℕ) {map number : ℕ} {form : ItemForm} → FormIs HasMap map number form →

@@ -13,14 +13,14 @@ use Rattle.model.specs.declared.Given.the-variants.{Value, Absent}
 use Rattle.model.specs.declared.Item.{Item}
 use Rattle.model.specs.Limits.{maxRanks, maxCells, maxRegisters, maxQueues, maxStates, shortTransitions, maxTransitions, longCount, maxItems, byteValues}
 use Rattle.model.specs.Refusals.{ok, programLength, programRange, recordLength, recordRange}
-use Rattle.model.specs.Choice.{between, bit}
+use Rattle.model.specs.Choice.{between, bit, Each, all, one}
 use Rattle.model.specs.Bytes.{AreBytes, here, byte, word, judged, optional, times}
 use Rattle.model.specs.ItemKinds.{itemKinds, hasPlace, Part, command, fetch, delivery, partOf}
 use Rattle.model.specs.Programs.{Program, HeaderFits, headerNumber, countByte, transitionCount, readHeaderIn, readHeader, readTransition, programReaderIn, programReader, readProgramIn, readProgram}
 use Rattle.model.specs.Formats.{HasMap, itemMaps}
 use Rattle.model.specs.Records.{field, lowByte, highByte, givenValue, itemFields, readItemIn, readItem, recordReaderIn, recordReader, readRecordIn, readRecord}
 use Rattle.model.specs.Replay.{every}
-use Rattle.model.specs.Traces.{Each, all, one, ChosenIn, GivenIn, InRecord}
+use Rattle.model.specs.Traces.{ChosenIn, GivenIn, InRecord}
 use Rattle.model.proofs.Laws.{and-true, decided, Within, between-true}
 use Rattle.model.proofs.Bytes.{Finds, finds-anything, finds-pure, finds-bind, finds-judged, finds-optional, finds-times, finds-word, whole-finds, finds-weaker}
 use Rattle.model.proofs.Tables.{everyRow}
@@ -132,13 +132,18 @@ pub record Ranged (header : Header) (bytes : List ℕ) (i : Item) : Type 0 where
   pub place-cell : hasPlace (i .kind) ≡ true → i .place .cell < header .cells
   pub given : AreBytes bytes → GivenIn (i .given)
 
--- A command names a transition, a pop a queue.
+-- A remote rank that is named, or none.
+remote-finds : {bytes : List ℕ} (present : Bool) (ranks : ℕ) → Finds bytes (optional present 0 (field (between 1 ranks))) (λ n. n ≤ ranks)
+remote-finds true ranks = finds-weaker (field-finds (between 1 ranks)) λ n h. between-true 1 ranks n h .high
+remote-finds false ranks = finds-pure 0 (omega arith)
+
+-- A command names a transition, a pop a queue and a remote rank or none.
 chosen-in : (header : Header) (part : Part) (item : Item) (map : ℕ) → chosenBit part map ≡ true →
     (bit 1 map ≡ true → ltb (item .transition) (header .transitions) ≡ true) → (bit 2 map ≡ true → ltb (item .queue) (header .queues) ≡ true) →
-    ChosenIn header part item
-chosen-in header command item map b t q = ltb-true (item .transition) (header .transitions) (t b)
-chosen-in header fetch item map b t q = ltb-true (item .queue) (header .queues) (q b)
-chosen-in header delivery item map b t q = ltb-true (item .queue) (header .queues) (q b)
+    item .remote ≤ header .ranks → ChosenIn header part item
+chosen-in header command item map b t q n = ltb-true (item .transition) (header .transitions) (t b)
+chosen-in header fetch item map b t q n = (ltb-true (item .queue) (header .queues) (q b), n)
+chosen-in header delivery item map b t q n = (ltb-true (item .queue) (header .queues) (q b), n)
 
 fields-find : {bytes : List ℕ} (header : Header) {map : ℕ} {kind : Kind} → HasMap kind map →
     Finds bytes (itemFields header map kind) (Ranged header bytes)
@@ -150,11 +155,12 @@ fields-find header {map} {kind} has =
     finds-bind (finds-optional (bit 3 map) 0 (field-finds (between 1 (header .ranks)))) λ place-rank place-rank-in.
     finds-bind (finds-optional (bit 4 map) 0 (finds-judged (λ a. ltb a (header .cells)) recordRange (word recordLength))) λ place-cell place-cell-in.
     finds-bind (absent-or-given (bit 5 map)) λ given given-in.
+    finds-bind (remote-finds (bit 6 map) (header .ranks)) λ remote remote-in.
     finds-bind (number-finds-below (bit 1 map) (bit 7 map) (header .transitions) low low-in) λ transition transition-in.
     finds-pure _
     (record {
       rank = between-true 1 (header .ranks) rank (rank-in (rank-bit has));
-      choice = chosen-in header (partOf kind) _ map (chosen-bit has) transition-in queue-in;
+      choice = chosen-in header (partOf kind) _ map (chosen-bit has) transition-in queue-in remote-in;
       place-rank = λ placed. between-true 1 (header .ranks) place-rank (place-rank-in (place-bit has placed .0));
       place-cell = λ placed. ltb-true place-cell (header .cells) (place-cell-in (place-bit has placed .1));
       given = given-in;

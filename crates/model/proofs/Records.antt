@@ -54,6 +54,7 @@ item-fields-fault length-row range-row header map kind =
     (optional-faults (bit 4 map) 0
     (judged-faults (λ a. ltb a (header .cells)) recordRange range-row (word-faults recordLength length-row))) λ place-cell.
     bind-faults (optional-faults (bit 5 map) Absent (bind-faults (word-faults recordLength length-row) λ value. pure-faults _)) λ given.
+    bind-faults (optional-faults (bit 6 map) 0 (judged-faults (between 1 (header .ranks)) recordRange range-row one-byte)) λ remote.
     bind-faults (optional-faults (bit 7 map) low (high-faults length-row range-row (header .transitions) low)) λ transition.
     pure-faults _
 

@@ -2,8 +2,8 @@
 -- pop has the entry that it chooses. The state after it and its event are then the definitions' own. The item's number has no part in it.
 use Prim.Native.Nat.{ℕ}
 use mathlib.Core.Path.{_≡_, refl, ap, subst}
-use mathlib.Core.Bool.{true, _&&_, Bool}
-use mathlib.Core.List.{List, [], _∷_}
+use mathlib.Core.Bool.{true, false, _&&_, Bool}
+use mathlib.Core.List.{List, [], _∷_, _++_}
 use mathlib.Core.Option.{Option, some, none, Option·none-ne-some, Option·some-injective}
 use lib.Dec.{eqb}
 use lib.ListN.{getElem?}
@@ -13,11 +13,12 @@ use Rattle.model.specs.declared.Kind.{Kind}
 use Rattle.model.specs.declared.Kind.the-variants.{Popa, Popb}
 use Rattle.model.specs.declared.Item.{Item}
 use Rattle.model.specs.Refusals.{ok, wrongTransition, accessDiffers, barrierRow}
+use Rattle.model.specs.Choice.{Each, all, one}
 use Rattle.model.specs.ItemKinds.{sameKind, Part, command, fetch, delivery, partOf}
 use Rattle.model.specs.Programs.{Program, Transition, kindOf}
 use Rattle.model.specs.Machine.{Request, Delivery, Access, readOf, writeOf, cellAt, Action, action}
-use Rattle.model.specs.Replay.{Origin, Replay, Taken, sameAddress, rowAllows, agreesWith, accessOf, agreed, afterCommand, afterFetch, afterDelivery, oldest, takeTransition, takeFetch, takeDelivery, takePart, takeItem}
-use Rattle.model.proofs.Laws.{refused≢ok, bind-ok, required, ok-injective, and-true, true-and}
+use Rattle.model.specs.Replay.{Origin, Replay, Taken, sameAddress, rowAllows, agreesWith, accessOf, agreed, afterCommand, afterFetch, afterDelivery, requestFor, deliveryFor, behind, oldest, takeTransition, takeFetch, takeDelivery, takePart, takeItem}
+use Rattle.model.proofs.Laws.{refused≢ok, bind-ok, required, ok-injective, and-true, true-and, decided}
 use Rattle.model.proofs.ItemKinds.{sameKind-true, true-sameKind, fetch-kind, delivery-kind}
 use Rattle.model.proofs.Actions.{action-at}
 
@@ -31,20 +32,22 @@ pub record CommandTaken (P : Program) (s : Replay) (i : Item) (t : Transition) (
   pub acts : (at : ℕ) → action P (i .rank) (s .machine .registers (i .rank)) at (t .command) ≡ ok a
   pub agreed : agreesWith i (accessOf (i .rank) a (s .machine .cells)) ≡ true
 
--- A pop of a kind with the entry that it takes out of its queue, the entries that it leaves, and its access.
-pub record PopTaken (s : Replay) (i : Item) (kind : Kind) {Entry : Type 0} (queue : List Entry) (entry : Entry) (rest : List Entry)
-    (access : Option Access) : Type 0 where
+-- A pop of a kind with the entry that it takes out of its queue, the oldest among those that it chooses from, the entries that it leaves, and its
+-- access.
+pub record PopTaken (s : Replay) (i : Item) (kind : Kind) {Entry : Type 0} (among : Entry → Bool) (queue : List Entry) (entry : Entry)
+    (rest : List Entry) (access : Option Access) : Type 0 where
   pub allowed : rowAllows (s .row) i ≡ true
   pub kind-is : i .kind ≡ kind
-  pub chosen : oldest queue ≡ some (entry, rest)
+  pub chosen : oldest among queue ≡ some (entry, rest)
   pub agreed : agreesWith i access ≡ true
 
 abbrev pub FetchTaken : Replay → Item → Request Origin → List (Request Origin) → Type 0
 FetchTaken s i a rest =
-    PopTaken s i Popa (s .machine .requests (i .rank) (i .queue)) a rest (readOf (a .source) (cellAt (s .machine .cells) (a .source)))
+    PopTaken s i Popa (requestFor i) (s .machine .requests (i .rank) (i .queue)) a rest (readOf (a .source) (cellAt (s .machine .cells) (a .source)))
 
 abbrev pub DeliveryTaken : Replay → Item → Delivery Origin → List (Delivery Origin) → Type 0
-DeliveryTaken s i b rest = PopTaken s i Popb (s .machine .deliveries (i .rank) (i .queue)) b rest (writeOf (b .destination) (b .value))
+DeliveryTaken s i b rest =
+    PopTaken s i Popb (deliveryFor i) (s .machine .deliveries (i .rank) (i .queue)) b rest (writeOf (b .destination) (b .value))
 
 -- An item that is taken, with the state after it and its event.
 pub data ItemTaken (P : Program) (s : Replay) (i : Item) : Taken → Type 0 where
@@ -52,17 +55,60 @@ pub data ItemTaken (P : Program) (s : Replay) (i : Item) : Taken → Type 0 wher
   fetches : (a : Request Origin) (rest : List (Request Origin)) → FetchTaken s i a rest → ItemTaken P s i (afterFetch s i a rest)
   delivers : (b : Delivery Origin) (rest : List (Delivery Origin)) → DeliveryTaken s i b rest → ItemTaken P s i (afterDelivery s i b rest)
 
--- The oldest entry is the first.
-pub oldest-first : {A : Type 0} (l : List A) {a : A} {rest : List A} → oldest l ≡ some (a, rest) → l ≡ a ∷ rest
-unfolding oldest
-oldest-first [] h = absurd (Option·none-ne-some _ h)
-oldest-first (b ∷ l) {a} {rest} h =
-    let same = Option·some-injective (b, l) (a, rest) h in
-    λ i. same i .0 ∷ same i .1
+-- The oldest of the entries that pass a test: it passes, and stands behind entries that do not. There is no other.
+pub record Oldest {A : Type 0} (among : A → Bool) (queue : List A) (a : A) (rest : List A) : Type 0 where
+  pub older : List A
+  pub newer : List A
+  pub stands : queue ≡ older ++ a ∷ newer
+  pub leaves : rest ≡ older ++ newer
+  pub passes : among a ≡ true
+  pub first : Each (λ x. among x ≡ false) older
 
-pub first-oldest : {A : Type 0} {l : List A} {a : A} {rest : List A} → l ≡ a ∷ rest → oldest l ≡ some (a, rest)
-unfolding oldest
-first-oldest h = rw h
+module _ {A : Type 0} (among : A → Bool) where
+  -- It is the first, or the oldest of those behind the first.
+  oldest-here : (b : A) (l : List A) → among b ≡ true → Oldest among (b ∷ l) b l
+  oldest-here b l passes = record { older = []; newer = l; stands = refl; leaves = refl; passes = passes; first = all }
+
+  oldest-behind : (b : A) (l : List A) {a : A} {rest : List A} → among b ≡ false → Oldest among l a rest → Oldest among (b ∷ l) a (b ∷ rest)
+  oldest-behind b l fails o =
+      record {
+        older = b ∷ o .older;
+        newer = o .newer;
+        stands = ap (b ∷_) (o .stands);
+        leaves = ap (b ∷_) (o .leaves);
+        passes = o .passes;
+        first = one fails (o .first);
+      }
+
+  found-behind : (b : A) (l : List A) {a : A} {rest : List A} (o : Option (A × List A)) → among b ≡ false →
+      ((x : A) (left : List A) → o ≡ some (x, left) → Oldest among l x left) → behind b o ≡ some (a, rest) → Oldest among (b ∷ l) a rest
+  found-behind b l none fails theirs h = absurd (Option·none-ne-some _ h)
+  found-behind b l {a} {rest} (some (x, left)) fails theirs h =
+      subst (λ (y : A × List A). Oldest among (b ∷ l) (y .0) (y .1)) (Option·some-injective (x, b ∷ left) (a, rest) h)
+      (oldest-behind b l fails (theirs x left refl))
+
+  pub oldest-is : (l : List A) {a : A} {rest : List A} → oldest among l ≡ some (a, rest) → Oldest among l a rest
+  unfolding oldest
+  oldest-is [] h = absurd (Option·none-ne-some _ h)
+  oldest-is (b ∷ l) {a} {rest} h =
+      decided (among b)
+      (λ passes.
+      subst (λ (y : A × List A). Oldest among (b ∷ l) (y .0) (y .1)) (Option·some-injective (b, l) (a, rest) (rw passes at h))
+      (oldest-here b l passes))
+      (λ fails. found-behind b l (oldest among l) fails (λ x left. oldest-is l) (rw fails at h))
+
+  pub is-oldest : {l : List A} {a : A} {rest : List A} → Oldest among l a rest → oldest among l ≡ some (a, rest)
+  unfolding oldest
+  is-oldest {a = a} o = rw (o .stands, o .leaves) (go (o .older) (o .newer) (o .first))
+    where
+      go : (older newer : List A) → Each (λ x. among x ≡ false) older → oldest among (older ++ a ∷ newer) ≡ some (a, older ++ newer)
+      go [] newer each = rw (o .passes)
+      go (b ∷ older) newer (one fails each) = rw (fails, go older newer each)
+
+  -- The one entry of a queue is the oldest, if it passes.
+  pub oldest-only : {l : List A} {a : A} → l ≡ a ∷ [] → among a ≡ true → oldest among l ≡ some (a, [])
+  unfolding oldest
+  oldest-only h passes = rw (h, passes)
 
 -- The test on the access comes last.
 agreed-ok : (at : ℕ) (after : Taken) {taken : Taken} → agreed at after ≡ ok taken →
@@ -104,7 +150,7 @@ module _ (P : Program) (s : Replay) (at : ℕ) (i : Item) where
         }))
 
     fetch-taken : (o : Option (Request Origin × List (Request Origin))) → i .kind ≡ Popa →
-        oldest (s .machine .requests (i .rank) (i .queue)) ≡ o → takeFetch s at i o ≡ ok taken → ItemTaken P s i taken
+        oldest (requestFor i) (s .machine .requests (i .rank) (i .queue)) ≡ o → takeFetch s at i o ≡ ok taken → ItemTaken P s i taken
     unfolding takeFetch
     fetch-taken none kind chosen h = absurd (refused≢ok h)
     fetch-taken (some (a, rest)) kind chosen h =
@@ -113,7 +159,7 @@ module _ (P : Program) (s : Replay) (at : ℕ) (i : Item) where
         (fetches a rest (record { allowed = allowed; kind-is = kind; chosen = chosen; agreed = agrees }))
 
     delivery-taken : (o : Option (Delivery Origin × List (Delivery Origin))) → i .kind ≡ Popb →
-        oldest (s .machine .deliveries (i .rank) (i .queue)) ≡ o → takeDelivery s at i o ≡ ok taken → ItemTaken P s i taken
+        oldest (deliveryFor i) (s .machine .deliveries (i .rank) (i .queue)) ≡ o → takeDelivery s at i o ≡ ok taken → ItemTaken P s i taken
     unfolding takeDelivery
     delivery-taken none kind chosen h = absurd (refused≢ok h)
     delivery-taken (some (b, rest)) kind chosen h =
@@ -124,8 +170,10 @@ module _ (P : Program) (s : Replay) (at : ℕ) (i : Item) where
     part-taken : (p : Part) → partOf (i .kind) ≡ p → takePart P s at i p ≡ ok taken → ItemTaken P s i taken
     unfolding takePart
     part-taken command part h = command-taken (getElem? (P .transitions) (i .transition)) part refl h
-    part-taken fetch part h = fetch-taken (oldest (s .machine .requests (i .rank) (i .queue))) (fetch-kind (i .kind) part) refl h
-    part-taken delivery part h = delivery-taken (oldest (s .machine .deliveries (i .rank) (i .queue))) (delivery-kind (i .kind) part) refl h
+    part-taken fetch part h =
+        fetch-taken (oldest (requestFor i) (s .machine .requests (i .rank) (i .queue))) (fetch-kind (i .kind) part) refl h
+    part-taken delivery part h =
+        delivery-taken (oldest (deliveryFor i) (s .machine .deliveries (i .rank) (i .queue))) (delivery-kind (i .kind) part) refl h
 
   -- An item is taken: all this holds.
   pub item-taken : {taken : Taken} → takeItem P s at i ≡ ok taken → ItemTaken P s i taken

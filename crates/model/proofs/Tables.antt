@@ -6,9 +6,8 @@ use mathlib.Core.List.{List, [], _∷_}
 use mathlib.Core.Option.{Option, some, none, Option·none-ne-some, Option·some-injective}
 use lib.Dec.{eqb}
 use borrow.Author.Tests.{eqb-true}
-use Rattle.model.specs.Choice.{lookup, member}
+use Rattle.model.specs.Choice.{lookup, member, Each, all, one}
 use Rattle.model.specs.Replay.{every}
-use Rattle.model.specs.Traces.{Each, all, one}
 use Rattle.model.proofs.Laws.{decided, and-true}
 
 -- What a table has under a number, whether it has something or not.

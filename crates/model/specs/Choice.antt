@@ -37,3 +37,8 @@ select test (a ∷ rest) = when (test a) (λ _. a ∷ select test rest) (λ _. s
 unfoldable pub numbersFrom : ℕ → ℕ → List ℕ
 numbersFrom first ℕ.zero = []
 numbersFrom first (ℕ.suc count) = first ∷ numbersFrom (first + 1) count
+
+-- What holds of each member.
+pub data Each {A : Type 0} (Holds : A → Type 0) : List A → Type 0 where
+  all : Each Holds []
+  one : {a : A} {rest : List A} → Holds a → Each Holds rest → Each Holds (a ∷ rest)

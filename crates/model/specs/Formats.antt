@@ -6,12 +6,13 @@
 -- `today-maps` in proofs/ItemForms.antt).
 use Prim.Native.Nat.{ℕ, _+_}
 use mathlib.Core.Path.{_≡_}
-use mathlib.Core.Bool.{true}
+use mathlib.Core.Bool.{true, false}
 use mathlib.Core.List.{List, [], _∷_}
 use Rattle.model.specs.declared.Kind.{Kind}
 use Rattle.model.specs.declared.Kind.the-variants.{Load, Store, Assign, Assume, Read, Write, Popa, Popb, Bar}
 use Rattle.model.specs.Limits.{byteRanks, maxRanks, shortTransitions, maxTransitions}
 use Rattle.model.specs.Choice.{bit}
+use Rattle.model.specs.ItemKinds.{isCommandKind}
 
 -- Document 01: "Maps: load and store 27, or 59 with a value; assign, assume, read, write and bar 3; popa (kind 7) and popb (kind 8) 29, or 61 with a
 -- value."
@@ -30,10 +31,12 @@ pub data OriginalMap : Kind → ℕ → Type 0 where
   popb : OriginalMap Popb 29
   popb-valued : OriginalMap Popb 61
 
--- Document 02, #107: "In items a new map bit 7 brings the transition's high byte after all other fields"; "bit 7 stands only with bit 1".
+-- Document 02, #107: "In items a new map bit 7 brings the transition's high byte after all other fields"; "bit 7 stands only with bit 1". #108: "A
+-- pop may carry map bit 6".
 pub data HasMap : Kind → ℕ → Type 0 where
   original : {kind : Kind} {map : ℕ} → OriginalMap kind map → HasMap kind map
   with-high : {kind : Kind} {map : ℕ} → OriginalMap kind map → bit 1 map ≡ true → HasMap kind (map + 128)
+  with-remote : {kind : Kind} {map : ℕ} → OriginalMap kind map → isCommandKind kind ≡ false → HasMap kind (map + 64)
 
 -- A case for each kind, with its maps written out: document 01's, and today's.
 unfoldable pub originalMaps : Kind → List ℕ
@@ -54,8 +57,8 @@ itemMaps Assign = 3 ∷ 131 ∷ []
 itemMaps Assume = 3 ∷ 131 ∷ []
 itemMaps Read = 3 ∷ 131 ∷ []
 itemMaps Write = 3 ∷ 131 ∷ []
-itemMaps Popa = 29 ∷ 61 ∷ []
-itemMaps Popb = 29 ∷ 61 ∷ []
+itemMaps Popa = 29 ∷ 61 ∷ 93 ∷ 125 ∷ []
+itemMaps Popb = 29 ∷ 61 ∷ 93 ∷ 125 ∷ []
 itemMaps Bar = 3 ∷ 131 ∷ []
 
 -- What differs from format to format: the most ranks, the most transitions, and an item's maps by its kind.

@@ -13,14 +13,17 @@ use Rattle.model.specs.Programs.{Program, Command, load, store, assign, 
 abbrev pub address : (rank cell : ℕ) → Address
 address rank cell = record { rank = rank; cell = cell }
 
--- "(own rank, e1, e2, e3) .. source rank and cell, then destination rank and cell". The mark says which command asked; no rule looks at it.
+-- "(own rank, e1, e2, e3) .. source rank and cell, then destination rank and cell"; document 02, #108: "A pending request now remembers its remote
+-- rank (for a read, the rank read from)". The mark says which command asked; no rule looks at it.
 pub record Request (Mark : Type 0) : Type 0 where
+  pub remote : ℕ
   pub source : Address
   pub destination : Address
   pub mark : Mark
 
--- "destination and value"
+-- "destination and value"; of the remote rank: "and so does its delivery."
 pub record Delivery (Mark : Type 0) : Type 0 where
+  pub remote : ℕ
   pub destination : Address
   pub value : ℕ
   pub mark : Mark
@@ -139,7 +142,7 @@ pub data Action : Type 0 where
   stores : (cell value : ℕ) → Action
   assigns : (register value : ℕ) → Action
   passes : Action
-  issues : (queue : ℕ) (source destination : Address) → Action
+  issues : (queue remote : ℕ) (source destination : Address) → Action
   meets : Action
 
 -- The operands of a transfer, in their ranges: "own cell, remote rank, remote cell or queue".
@@ -190,9 +193,9 @@ module _ (P : Program) (rank : ℕ) (registers : ℕ → ℕ) (item : ℕ) where
   -- "read appends (e2, e3, own rank, e1)"
   action (read e1 e2 e3 e4) = do
     t ← transfer e1 e2 e3 e4
-    ok (issues (t .queue) (t .remote) (t .own))
+    ok (issues (t .queue) (t .remote .rank) (t .remote) (t .own))
   -- "write appends (own rank, e1, e2, e3) to the rank's queue e4 of requests"
   action (write e1 e2 e3 e4) = do
     t ← transfer e1 e2 e3 e4
-    ok (issues (t .queue) (t .own) (t .remote))
+    ok (issues (t .queue) (t .remote .rank) (t .own) (t .remote))
   action bar = ok meets

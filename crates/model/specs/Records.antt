@@ -1,4 +1,5 @@
--- Record bytes (document 01): "a two-byte item count, 0..1,024, then the items"; and document 02's #107 on an item's transition.
+-- Record bytes (document 01): "a two-byte item count, 0..1,024, then the items"; and document 02's #107 on an item's transition
+-- and #108 on the remote rank that a pop names.
 use Prim.Native.Nat.{ℕ, _+_, _*_}
 use mathlib.Core.Bool.{Bool, true, false, _&&_}
 use mathlib.Core.List.{List}
@@ -40,7 +41,8 @@ givenValue = do
   pure (Value value)
 
 -- "then the fields whose bit stands, in bit order: 0 rank, 1 transition, 2 queue, 3 place rank, 4 place cell (two bytes), 5 value (two bytes); the
--- others are one byte"; and last, with bit 7, "the transition's high byte after all other fields".
+-- others are one byte"; with bit 6, "as its last field, the remote rank (one byte)", of which "one outside 1..N gets 5"; and with bit 7 "the
+-- transition's high byte after all other fields". No kind has both bits.
 unfoldable pub itemFields : Header → (map : ℕ) → Kind → Reader Item
 unfolding byte word judged field lowByte highByte givenValue
 itemFields header map kind = do
@@ -50,6 +52,7 @@ itemFields header map kind = do
   placeRank ← optional (bit 3 map) 0 (field (between 1 (header .ranks)))
   placeCell ← optional (bit 4 map) 0 (judged (λ a. ltb a (header .cells)) recordRange (word recordLength))
   given ← optional (bit 5 map) Absent givenValue
+  remote ← optional (bit 6 map) 0 (field (between 1 (header .ranks)))
   transition ← optional (bit 7 map) low (highByte (header .transitions) low)
   pure
       (record {
@@ -59,6 +62,7 @@ itemFields header map kind = do
         queue = queue;
         place = record { rank = placeRank; cell = placeCell };
         given = given;
+        remote = remote;
       })
 
 -- "An item is a map byte, a kind byte, then the fields"; "map and kind are both read before either is judged."

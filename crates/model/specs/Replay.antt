@@ -1,7 +1,7 @@
 -- The replay (document 01, "Steps of the replay"): items in turn, from any start, each taken or refused in the order "12 first, for pops too, then
 -- 7, 8, 9, 11; a pop has 10 before 11".
 use Prim.Native.Nat.{ℕ, _+_, _-_}
-use mathlib.Core.Bool.{Bool, true, false, _&&_}
+use mathlib.Core.Bool.{Bool, true, false, _&&_, _||_}
 use mathlib.Core.List.{List, [], _∷_, _++_}
 use mathlib.Core.Option.{Option, some, none}
 use lib.Dec.{ltb, eqb}
@@ -82,7 +82,7 @@ accessOf rank (loads x a) cells = readOf (address rank a) (cells rank a)
 accessOf rank (stores a v) cells = writeOf (address rank a) v
 accessOf rank (assigns x v) cells = none
 accessOf rank passes cells = none
-accessOf rank (issues q source destination) cells = none
+accessOf rank (issues q remote source destination) cells = none
 accessOf rank meets cells = none
 
 unfoldable pub queueOf : Action → ℕ
@@ -90,7 +90,7 @@ queueOf (loads x a) = 0
 queueOf (stores a v) = 0
 queueOf (assigns x v) = 0
 queueOf passes = 0
-queueOf (issues q source destination) = q
+queueOf (issues q remote source destination) = q
 queueOf meets = 0
 
 unfoldable pub perform : (rank : ℕ) → Origin → Action → State Origin → State Origin
@@ -99,8 +99,9 @@ perform rank origin (loads x a) s = setRegister s rank x (s .cells rank a)
 perform rank origin (stores a v) s = setCell s (address rank a) v
 perform rank origin (assigns x v) s = setRegister s rank x v
 perform rank origin passes s = s
-perform rank origin (issues q source destination) s =
-    setRequests s rank q (s .requests rank q ++ record { source = source; destination = destination; mark = origin } ∷ [])
+perform rank origin (issues q remote source destination) s =
+    setRequests s rank q
+    (s .requests rank q ++ record { remote = remote; source = source; destination = destination; mark = origin } ∷ [])
 perform rank origin meets s = s
 
 -- An item taken: the state after it, and its event.
@@ -149,10 +150,24 @@ takeTransition P s at i (some t) = do
   a ← action P (i .rank) (s .machine .registers (i .rank)) at (t .command)
   agreed at (afterCommand P s i (t .target) a)
 
--- Which entry a pop takes: "Each such queue is first in, first out over all remote ranks."
-unfoldable pub oldest : {A : Type 0} → List A → Option (A × List A)
-oldest [] = none
-oldest (a ∷ rest) = some (a, rest)
+-- The entries that a pop chooses among (document 02, #108): those for the remote rank that it names, or all where it names none.
+unfoldable pub isFor : (named remote : ℕ) → Bool
+isFor named remote = eqb named 0 || eqb named remote
+
+abbrev pub requestFor : {Mark : Type 0} → Item → Request Mark → Bool
+requestFor i a = isFor (i .remote) (a .remote)
+
+abbrev pub deliveryFor : {Mark : Type 0} → Item → Delivery Mark → Bool
+deliveryFor i b = isFor (i .remote) (b .remote)
+
+-- The entry that it takes, and the others as they stood: "Oldest means first appended to the requests or deliveries it is taken from."
+abbrev pub behind : {A : Type 0} → A → Option (A × List A) → Option (A × List A)
+behind first none = none
+behind first (some (a, rest)) = some (a, first ∷ rest)
+
+unfoldable pub oldest : {A : Type 0} → (A → Bool) → List A → Option (A × List A)
+oldest among [] = none
+oldest among (a ∷ rest) = when (among a) (λ _. some (a, rest)) (λ _. behind a (oldest among rest))
 
 -- A pop changes the machine alone.
 abbrev pub popped : Replay → State Origin → Item → Origin → Option Access → Taken
@@ -164,7 +179,8 @@ popped s machine i origin access =
 
 -- What a fetch sends on: "reads the source cell now".
 abbrev pub sentOn : Replay → Request Origin → Delivery Origin
-sentOn s a = record { destination = a .destination; value = cellAt (s .machine .cells) (a .source); mark = a .mark }
+sentOn s a =
+    record { remote = a .remote; destination = a .destination; value = cellAt (s .machine .cells) (a .source); mark = a .mark }
 
 -- The state and the event after a fetch of this request, which leaves the rest: "appends destination and value to that queue's deliveries".
 abbrev pub afterFetch : Replay → Item → Request Origin → (rest : List (Request Origin)) → Taken
@@ -174,7 +190,7 @@ afterFetch s i a rest =
     (s .machine .deliveries (i .rank) (i .queue) ++ sentOn s a ∷ []))
     i (a .mark) (readOf (a .source) (sentOn s a .value))
 
--- "popa takes the head request of the named queue, reads the source cell now, and appends destination and value to that queue's deliveries."
+-- "popa takes the head request of the named queue", or the oldest for the rank that it names, "reads the source cell now, and appends destination and value to that queue's deliveries."
 unfoldable pub takeFetch : Replay → (at : ℕ) → Item → Option (Request Origin × List (Request Origin)) → Result Taken
 unfolding setRequests setDeliveries agreed
 takeFetch s at i none = refuse emptyQueue at
@@ -187,17 +203,17 @@ afterDelivery s i b rest =
     (setCell (setDeliveries (s .machine) (i .rank) (i .queue) rest) (b .destination) (b .value))
     i (b .mark) (writeOf (b .destination) (b .value))
 
--- "popb takes the head delivery and writes it."
+-- "popb takes the head delivery and writes it", or the oldest for the rank that it names.
 unfoldable pub takeDelivery : Replay → (at : ℕ) → Item → Option (Delivery Origin × List (Delivery Origin)) → Result Taken
 unfolding setCell setDeliveries agreed
 takeDelivery s at i none = refuse emptyQueue at
 takeDelivery s at i (some (b, rest)) = agreed at (afterDelivery s i b rest)
 
 unfoldable pub takePart : Program → Replay → (at : ℕ) → Item → Part → Result Taken
-unfolding takeTransition oldest takeFetch takeDelivery
+unfolding takeTransition isFor oldest takeFetch takeDelivery
 takePart P s at i command = takeTransition P s at i (getElem? (P .transitions) (i .transition))
-takePart P s at i fetch = takeFetch s at i (oldest (s .machine .requests (i .rank) (i .queue)))
-takePart P s at i delivery = takeDelivery s at i (oldest (s .machine .deliveries (i .rank) (i .queue)))
+takePart P s at i fetch = takeFetch s at i (oldest (requestFor i) (s .machine .requests (i .rank) (i .queue)))
+takePart P s at i delivery = takeDelivery s at i (oldest (deliveryFor i) (s .machine .deliveries (i .rank) (i .queue)))
 
 -- One item, the one with this number.
 unfoldable pub takeItem : Program → Replay → (at : ℕ) → Item → Result Taken

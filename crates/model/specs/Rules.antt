@@ -1,5 +1,6 @@
 -- Table 1 of the source (document 001, section 2.3), a constructor for each rule. The rules that the source calls similar (store, assign, assume,
--- read) are written out. The replay has no part in this file.
+-- read) are written out. To the two pops, which take the head of a queue, document 02's #108 adds two that take "the oldest entry for that rank".
+-- The replay has no part in this file.
 use Prim.Native.Nat.{ℕ, _≤_, _<_}
 use mathlib.Core.Path.{_≡_}
 use mathlib.Core.List.{List, [], _∷_, _++_, map}
@@ -11,26 +12,28 @@ use Rattle.model.specs.declared.Kind.the-variants.{Load, Store, Assign, 
 use Rattle.model.specs.declared.Given.{Given}
 use Rattle.model.specs.declared.Given.the-variants.{Value, Absent}
 use Rattle.model.specs.declared.Item.{Item}
-use Rattle.model.specs.Choice.{when, between, numbersFrom}
+use Rattle.model.specs.Choice.{when, between, numbersFrom, Each}
 use Rattle.model.specs.ItemKinds.{Part, fetch, delivery, partOf}
 use Rattle.model.specs.Expressions.{Expression}
 use Rattle.model.specs.Programs.{Program, Command}
 use Rattle.model.specs.Machine.{State, Request, Delivery, Access, readOf, writeOf, Start, initial, address, cellAt, valueOf, moveTo, setRegister, setCell, setRequests, setDeliveries}
 
 -- The source's events, (kind, rank, address or ⊥). With the address comes the value that is read or written there. An event of ours also names the
--- transition of a command and the queue of a pop ("The source's pop events omit the queue; ours name it"); the other of the two is 0.
+-- transition of a command and the queue of a pop ("The source's pop events omit the queue; ours name it"); the other of the two is 0. So is
+-- `remote`, but for a pop that takes the oldest entry for a rank, which names that rank.
 pub record Label : Type 0 where
   pub kind : Kind
   pub rank : ℕ
   pub transition : ℕ
   pub queue : ℕ
+  pub remote : ℕ
   pub access : Option Access
 
 abbrev pub command : Kind → (rank transition : ℕ) → Option Access → Label
-command kind r t access = record { kind = kind; rank = r; transition = t; queue = 0; access = access }
+command kind r t access = record { kind = kind; rank = r; transition = t; queue = 0; remote = 0; access = access }
 
-abbrev pub pop : Kind → (rank queue : ℕ) → Option Access → Label
-pop kind r q access = record { kind = kind; rank = r; transition = 0; queue = q; access = access }
+abbrev pub pop : Kind → (rank queue remote : ℕ) → Option Access → Label
+pop kind r q n access = record { kind = kind; rank = r; transition = 0; queue = q; remote = n; access = access }
 
 -- The table's states carry no marks.
 abbrev pub Bare : Type 0
@@ -52,6 +55,16 @@ pub record Enabled (P : Program) (s : Bare) (r t : ℕ) (cmd : Command) (q₂ : 
   pub rank : Rank P r
   pub transition : getElem? (P .transitions) t ≡ some (record { source = s .control r; target = q₂; command = cmd })
 
+-- "the oldest entry for that rank. .. Oldest means first appended": of the queue's entries a is for rank n, none before it is, and these others
+-- are left.
+pub record OldestFor {A : Type 0} (remote : A → ℕ) (n : ℕ) (queue : List A) (a : A) (left : List A) : Type 0 where
+  pub older : List A
+  pub newer : List A
+  pub stands : queue ≡ older ++ a ∷ newer
+  pub leaves : left ≡ older ++ newer
+  pub for-rank : remote a ≡ n
+  pub first : Each (λ x. ¬ (remote x ≡ n)) older
+
 module _ (P : Program) where
   -- ê: "the evaluation of expression e in memory configuration m"
   abbrev pub eval : Bare → ℕ → Expression → ℕ
@@ -64,15 +77,15 @@ module _ (P : Program) where
     pub cell : Cell P (valueOf P r registers e3)
     pub queue : Queue P (valueOf P r registers e4)
 
-  -- fa[(r, q) := α · (source, destination)]
-  abbrev pub ask : Bare → (r q : ℕ) → (source destination : Address) → Bare
-  ask s r q source destination =
-      setRequests s r q (s .requests r q ++ record { source = source; destination = destination; mark = tt } ∷ [])
+  -- fa[(r, q) := α · (source, destination)], with the remote rank
+  abbrev pub ask : Bare → (r q n : ℕ) → (source destination : Address) → Bare
+  ask s r q n source destination =
+      setRequests s r q (s .requests r q ++ record { remote = n; source = source; destination = destination; mark = tt } ∷ [])
 
-  -- fb[(r, q) := β · (destination, value)]
-  abbrev pub send : Bare → (r q : ℕ) → Address → ℕ → Bare
-  send s r q destination value =
-      setDeliveries s r q (s .deliveries r q ++ record { destination = destination; value = value; mark = tt } ∷ [])
+  -- fb[(r, q) := β · (destination, value)], with the remote rank
+  abbrev pub send : Bare → (r q n : ℕ) → Address → ℕ → Bare
+  send s r q n destination value =
+      setDeliveries s r q (s .deliveries r q ++ record { remote = n; destination = destination; value = value; mark = tt } ∷ [])
 
   -- st′, where each rank of RNK moves
   abbrev pub moveAll : Bare → (ℕ → ℕ) → Bare
@@ -106,19 +119,29 @@ module _ (P : Program) where
         Operands r (s .registers r) e₁ e₂ e₃ e₄ →
         Step s
         (command Read r t none ∷ [])
-        (ask (moveTo s r q₂) r (eval s r e₄) (address (eval s r e₂) (eval s r e₃)) (address r (eval s r e₁)))
+        (ask (moveTo s r q₂) r (eval s r e₄) (eval s r e₂) (address (eval s r e₂) (eval s r e₃)) (address r (eval s r e₁)))
     write : {s : Bare} {r t q₂ : ℕ} {e₁ e₂ e₃ e₄ : Expression} → Enabled P s r t (Command.write e₁ e₂ e₃ e₄) q₂ →
         Operands r (s .registers r) e₁ e₂ e₃ e₄ →
         Step s
         (command Write r t none ∷ [])
-        (ask (moveTo s r q₂) r (eval s r e₄) (address r (eval s r e₁)) (address (eval s r e₂) (eval s r e₃)))
+        (ask (moveTo s r q₂) r (eval s r e₄) (eval s r e₂) (address r (eval s r e₁)) (address (eval s r e₂) (eval s r e₃)))
     popa : {s : Bare} {r q : ℕ} {a : Request (Unit {0})} {α : List (Request (Unit {0}))} → Rank P r → Queue P q → s .requests r q ≡ a ∷ α →
         Step s
-        (pop Popa r q (readOf (a .source) (cellAt (s .cells) (a .source))) ∷ [])
-        (send (setRequests s r q α) r q (a .destination) (cellAt (s .cells) (a .source)))
+        (pop Popa r q 0 (readOf (a .source) (cellAt (s .cells) (a .source))) ∷ [])
+        (send (setRequests s r q α) r q (a .remote) (a .destination) (cellAt (s .cells) (a .source)))
+    popa-for : {s : Bare} {r q n : ℕ} {a : Request (Unit {0})} {α : List (Request (Unit {0}))} → Rank P r → Queue P q → Rank P n →
+        OldestFor (λ x. x .remote) n (s .requests r q) a α →
+        Step s
+        (pop Popa r q n (readOf (a .source) (cellAt (s .cells) (a .source))) ∷ [])
+        (send (setRequests s r q α) r q (a .remote) (a .destination) (cellAt (s .cells) (a .source)))
     popb : {s : Bare} {r q : ℕ} {b : Delivery (Unit {0})} {β : List (Delivery (Unit {0}))} → Rank P r → Queue P q → s .deliveries r q ≡ b ∷ β →
         Step s
-        (pop Popb r q (writeOf (b .destination) (b .value)) ∷ [])
+        (pop Popb r q 0 (writeOf (b .destination) (b .value)) ∷ [])
+        (setCell (setDeliveries s r q β) (b .destination) (b .value))
+    popb-for : {s : Bare} {r q n : ℕ} {b : Delivery (Unit {0})} {β : List (Delivery (Unit {0}))} → Rank P r → Queue P q → Rank P n →
+        OldestFor (λ x. x .remote) n (s .deliveries r q) b β →
+        Step s
+        (pop Popb r q n (writeOf (b .destination) (b .value)) ∷ [])
         (setCell (setDeliveries s r q β) (b .destination) (b .value))
     bar : {s : Bare} (t st′ : ℕ → ℕ) → ((r : ℕ) → Rank P r → Enabled P s r (t r) Command.bar (st′ r)) →
         Step s
@@ -144,11 +167,11 @@ abbrev pub PlacedAs : Option Access → Item → Type 0
 PlacedAs none i = Unit {0}
 PlacedAs (some a) i = (i .place ≡ a .address) × GivenAs (a .value) (i .given)
 
--- A command item names its transition, a pop its queue.
+-- A command item names its transition, a pop its queue and the remote rank whose oldest entry it takes, if it does.
 abbrev pub ChosenAs : Label → Part → Item → Type 0
 ChosenAs l Part.command i = i .transition ≡ l .transition
-ChosenAs l fetch i = i .queue ≡ l .queue
-ChosenAs l delivery i = i .queue ≡ l .queue
+ChosenAs l fetch i = (i .queue ≡ l .queue) × (i .remote ≡ l .remote)
+ChosenAs l delivery i = (i .queue ≡ l .queue) × (i .remote ≡ l .remote)
 
 -- An item that records an event.
 pub record Recorded (l : Label) (i : Item) : Type 0 where

@@ -15,7 +15,7 @@ use Rattle.model.specs.declared.Given.the-variants.{Value, Absent}
 use Rattle.model.specs.declared.Item.{Item}
 use Rattle.model.specs.Limits.{wordValues}
 use Rattle.model.specs.Refusals.{ok}
-use Rattle.model.specs.Choice.{when, select}
+use Rattle.model.specs.Choice.{when, select, Each}
 use Rattle.model.specs.ItemKinds.{sameKind, isTransfer, hasPlace, Part, command, fetch, delivery, partOf}
 use Rattle.model.specs.Programs.{Program}
 use Rattle.model.specs.Machine.{Start}
@@ -68,16 +68,11 @@ pub record SameTrace (events others : List Event) : Type 0 where
 abbrev pub SameValues : List Event → List Event → Type 0
 SameValues events others = (x y : Event) → x ∈ events → y ∈ others → Identified x y → valueAt x ≡ valueAt y
 
--- What holds of each member.
-pub data Each {A : Type 0} (Holds : A → Type 0) : List A → Type 0 where
-  all : Each Holds []
-  one : {a : A} {rest : List A} → Holds a → Each Holds rest → Each Holds (a ∷ rest)
-
--- A command item names a transition of the program, a pop a queue.
+-- A command item names a transition of the program, a pop a queue, and a remote rank or none.
 abbrev pub ChosenIn : Header → Part → Item → Type 0
 ChosenIn h command i = i .transition < h .transitions
-ChosenIn h fetch i = i .queue < h .queues
-ChosenIn h delivery i = i .queue < h .queues
+ChosenIn h fetch i = (i .queue < h .queues) × (i .remote ≤ h .ranks)
+ChosenIn h delivery i = (i .queue < h .queues) × (i .remote ≤ h .ranks)
 
 abbrev pub GivenIn : Given → Type 0
 GivenIn (Value v) = v < wordValues

@@ -10,12 +10,11 @@ use borrow.Author.Tests.{ltb-true}
 use Rattle.model.specs.declared.Header.{Header}
 use Rattle.model.specs.Limits.{maxRegisters}
 use Rattle.model.specs.Refusals.{programLength, programRange}
-use Rattle.model.specs.Choice.{lookup, bit}
+use Rattle.model.specs.Choice.{lookup, bit, Each, all, one}
 use Rattle.model.specs.Bytes.{Found, Reader, found, byte, judged, optional}
 use Rattle.model.specs.Expressions.{constant, expression}
 use Rattle.model.specs.Programs.{Command, load, store, assign, assume, read, write, bar}
 use Rattle.model.specs.Programs.{Transition, Fields, CommandForm, forms, judgedForm, readFields, readTransition}
-use Rattle.model.specs.Traces.{Each, all, one}
 use Rattle.model.proofs.Laws.{decided, refused≢ok, ok-injective, bind-ok}
 use Rattle.model.proofs.Bytes.{Finds, finds-anything, finds-weaker, finds-pure, finds-bind, finds-judged}
 

@@ -14,6 +14,7 @@ use Rattle.model.specs.declared.Header.{Header}
 use Rattle.model.specs.declared.Item.{Item}
 use Rattle.model.specs.Limits.{maxItems}
 use Rattle.model.specs.Refusals.{ok, barrierRow, queuesLeft, recordLength, recordRange}
+use Rattle.model.specs.Choice.{Each, all, one}
 use Rattle.model.specs.Bytes.{Reader, word, judged, times}
 use Rattle.model.specs.ItemKinds.{hasPlace}
 use Rattle.model.specs.Programs.{Program, Command, Transition, HeaderFits, readProgram}
@@ -23,7 +24,6 @@ use Rattle.model.specs.Machine.{Start, initial, moveTo, setRegister, setCell, s
 use Rattle.model.specs.Replay.{Event, Replay, Taken, Replayed, joinsRow, openedAfter, originOf, accessOf, perform}
 use Rattle.model.specs.Replay.{takeItem, takeItems, sameAddress, agreesWith, begin, quiet, atEnd, replay}
 use Rattle.model.specs.HappensBefore.{At, rankOf}
-use Rattle.model.specs.Traces.{Each, all, one}
 use Rattle.model.specs.Checks.{Accepted, acceptIn, accept}
 use Rattle.model.proofs.Laws.{Within, decided, and-true, bind-ok, required, ok-injective, put₂-holds}
 use Rattle.model.proofs.Bytes.{Finds, finds-anything, finds-pure, finds-bind, finds-judged, finds-times, finds-weaker, whole-finds}

@@ -4,10 +4,11 @@ use mathlib.Core.Bool.{true}
 use mathlib.Core.List.{List}
 use Rattle.model.specs.declared.Item.{Item}
 use Rattle.model.specs.Refusals.{ok}
+use Rattle.model.specs.Choice.{Each}
 use Rattle.model.specs.Programs.{Program}
 use Rattle.model.specs.Machine.{Start}
 use Rattle.model.specs.Replay.{Event, Replay, Replayed, agreesWith, replay}
-use Rattle.model.specs.Traces.{Each, InRecord}
+use Rattle.model.specs.Traces.{InRecord}
 use Rattle.record_facts.specs.Facts.{Facts}
 use Rattle.record_facts.proofs.Moves.{Move, commands, fetches, delivers}
 use Rattle.record_facts.proofs.Trajectory.{AcceptedRun, accepted, move-at}

@@ -11,13 +11,12 @@ use mathlib.Core.Logic.{_⊎_, inl, inr}
 use Rattle.model.specs.declared.Address.{Address}
 use Rattle.model.specs.declared.Item.{Item}
 use Rattle.model.specs.declared.Kind.the-variants.{Bar}
-use Rattle.model.specs.Choice.{numbersFrom}
+use Rattle.model.specs.Choice.{numbersFrom, Each, all}
 use Rattle.model.specs.ItemKinds.{isBar, isTransfer, isCommandPart}
 use Rattle.model.specs.Programs.{Program, Transition}
 use Rattle.model.specs.Machine.{Action, loads, stores, assigns, passes, issues, meets}
 use Rattle.model.specs.Replay.{Event, Replay, rowAllows, joinsRow, groupOf, openedAfter, queueOf, originOf, afterCommand}
 use Rattle.model.specs.HappensBefore.{rankOf}
-use Rattle.model.specs.Traces.{Each, all}
 use Rattle.model.proofs.Laws.{decided}
 use Rattle.record_facts.specs.Facts.{Local}
 use Rattle.record_facts.proofs.Moves.{Commands, Move}

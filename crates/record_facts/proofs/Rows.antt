@@ -8,10 +8,9 @@ use mathlib.Core.List.{List, [], _∷_, _++_}
 use lib.Dec.{ltb, eqb}
 use borrow.Author.Tests.{eqb-true, eqb-false, ltb-true, ltb-false, lt-ltb, le-ltb}
 use Rattle.model.specs.declared.Item.{Item}
-use Rattle.model.specs.Choice.{numbersFrom}
+use Rattle.model.specs.Choice.{numbersFrom, Each, all, one}
 use Rattle.model.specs.ItemKinds.{isBar}
 use Rattle.model.specs.Replay.{rowAllows, rowAfter, joinsRow, groupOf, openedAfter}
-use Rattle.model.specs.Traces.{Each, all, one}
 use Rattle.model.proofs.Laws.{decided}
 
 -- One number or another.

@@ -13,13 +13,12 @@ use Rattle.model.specs.declared.Address.{Address}
 use Rattle.model.specs.declared.Kind.{Kind}
 use Rattle.model.specs.declared.Kind.the-variants.{Popa, Popb, Bar}
 use Rattle.model.specs.Refusals.{ok}
-use Rattle.model.specs.Choice.{numbersFrom}
+use Rattle.model.specs.Choice.{numbersFrom, Each}
 use Rattle.model.specs.ItemKinds.{isBar, isTransfer}
 use Rattle.model.specs.Programs.{Program, Transition}
 use Rattle.model.specs.Machine.{Request, Delivery, readOf, writeOf, put₂, issues, action}
 use Rattle.model.specs.Replay.{Origin, Event, Replay}
 use Rattle.model.specs.HappensBefore.{isCommand, rankOf}
-use Rattle.model.specs.Traces.{Each}
 use Rattle.model.specs.Checks.{groupEvents}
 use Rattle.model.proofs.Laws.{decided, and-true, put₂-same}
 use Rattle.record_facts.specs.Facts.{Local, PopOf, Shape, single, transfer, row}

@@ -16,12 +16,12 @@ use lib.ListN.{length, take}
 use borrow.Author.Tests.{leb-true, le-leb, eqb-true}
 use Rattle.model.specs.declared.Item.{Item}
 use Rattle.model.specs.Refusals.{ok, barrierRow, queuesLeft}
-use Rattle.model.specs.Choice.{when}
+use Rattle.model.specs.Choice.{when, Each, all, one}
 use Rattle.model.specs.Programs.{Program}
 use Rattle.model.specs.Machine.{Start}
 use Rattle.model.specs.Replay.{Event, Replay, Replayed, begin, takeItem, takeItems, quiet, atEnd, replay}
 use Rattle.model.specs.HappensBefore.{At}
-use Rattle.model.specs.Traces.{Each, all, one, InRecord, commandOf}
+use Rattle.model.specs.Traces.{InRecord, commandOf}
 use Rattle.model.proofs.Laws.{ok-injective, bind-ok, required, decided}
 use Rattle.record_facts.specs.Facts.{Local, initialLocal}
 use Rattle.record_facts.proofs.Moves.{Move, item-taken}

@@ -12,13 +12,13 @@ use Rattle.model.specs.declared.Item.{Item}
 use Rattle.model.specs.declared.Kind.{Kind}
 use Rattle.model.specs.declared.Kind.the-variants.{Popa, Popb, Bar}
 use Rattle.model.specs.Refusals.{ok}
-use Rattle.model.specs.Choice.{when, select, numbersFrom}
+use Rattle.model.specs.Choice.{when, select, numbersFrom, Each}
 use Rattle.model.specs.ItemKinds.{isBar, isTransfer}
 use Rattle.model.specs.Programs.{Program, Transition, kindOf}
 use Rattle.model.specs.Machine.{Start, Access, readOf, writeOf, put, put₂, Action, loads, stores, assigns, passes, issues, meets, action}
 use Rattle.model.specs.Replay.{Event, Replayed, joinsRow, agreesWith, accessOf, queueOf}
 use Rattle.model.specs.HappensBefore.{At, isCommand, rankOf}
-use Rattle.model.specs.Traces.{commandOf, Each}
+use Rattle.model.specs.Traces.{commandOf}
 use Rattle.model.specs.Checks.{groupEvents}
 
 -- How many command items a rank has among these events.

@@ -13,12 +13,12 @@ use lib.ListN.{length, getElem?}
 use borrow.Author.Tests.{eq-eqb}
 use Rattle.model.specs.declared.Item.{Item}
 use Rattle.model.specs.Refusals.{ok, _>>=_}
-use Rattle.model.specs.Choice.{numbersFrom, select}
+use Rattle.model.specs.Choice.{numbersFrom, select, Each, all, one}
 use Rattle.model.specs.Programs.{Program}
 use Rattle.model.specs.Machine.{State, Start, initial, address}
 use Rattle.model.specs.Replay.{Event, Origin, Replayed, begin, every, quiet, atEnd, replay}
 use Rattle.model.specs.HappensBefore.{At, conflict}
-use Rattle.model.specs.Traces.{transitionsOf, Identified, Precedes, _∈_, cellOf, valueAt, SameTrace, SameValues, Each, all, one, InRecord, SerialRun}
+use Rattle.model.specs.Traces.{transitionsOf, Identified, Precedes, _∈_, cellOf, valueAt, SameTrace, SameValues, InRecord, SerialRun}
 use Rattle.model.specs.Checks.{orderItems, arranged}
 use Rattle.record_facts.specs.Facts.{Facts, countOf, cellsAfter}
 use Rattle.serializability.specs.Orders.{Forward}

@@ -10,12 +10,11 @@ use native.Mathlib.Omega.{arith}
 use lib.ListN.{getElem?}
 use Rattle.model.specs.declared.Kind.{Kind}
 use Rattle.model.specs.declared.Kind.the-variants.{Popa, Popb, Bar}
-use Rattle.model.specs.Choice.{numbersFrom}
+use Rattle.model.specs.Choice.{numbersFrom, Each, all, one}
 use Rattle.model.specs.ItemKinds.{isTransfer, isCommandKind}
 use Rattle.model.specs.Programs.{Program}
 use Rattle.model.specs.Replay.{Event}
 use Rattle.model.specs.HappensBefore.{At, isCommand, rankOf}
-use Rattle.model.specs.Traces.{Each, all, one}
 use Rattle.model.proofs.ItemKinds.{transfer-command}
 use Rattle.record_facts.specs.Facts.{Shape, single, transfer, row, PopOf, Local}
 

@@ -12,12 +12,13 @@ use mathlib.Core.Logic.{⊎-elim}
 use native.Mathlib.Omega.{arith}
 use Rattle.model.specs.declared.Item.{Item}
 use Rattle.model.specs.Refusals.{ok}
+use Rattle.model.specs.Choice.{Each}
 use Rattle.model.specs.Programs.{Program}
 use Rattle.model.specs.Machine.{Start}
 use Rattle.model.specs.Replay.{Replayed, replay}
 use Rattle.model.specs.HappensBefore.{HappensBefore}
 use Rattle.model.specs.Orders.{Verdict, ordered, cyclic}
-use Rattle.model.specs.Traces.{SameTrace, Each, InRecord, SerialRun}
+use Rattle.model.specs.Traces.{SameTrace, InRecord, SerialRun}
 use Rattle.model.specs.Checks.{verdictOn, orderItems}
 use Rattle.ordering.proofs.Lists.{position, at-position, one-place}
 use Rattle.ordering.proofs.Chains.{conflict-reaches, program-reaches}

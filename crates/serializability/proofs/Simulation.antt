@@ -17,13 +17,13 @@ use Rattle.model.specs.declared.Item.{Item}
 use Rattle.model.specs.declared.Kind.{Kind}
 use Rattle.model.specs.declared.Kind.the-variants.{Popa, Popb, Bar}
 use Rattle.model.specs.Refusals.{ok, _>>=_}
-use Rattle.model.specs.Choice.{when, numbersFrom}
+use Rattle.model.specs.Choice.{when, numbersFrom, Each, all, one}
 use Rattle.model.specs.ItemKinds.{kindNumber, sameKind, isBar, isTransfer}
 use Rattle.model.specs.Programs.{Program, Transition, kindOf}
 use Rattle.model.specs.Machine.{Start, Access, readOf, writeOf, issues, action}
 use Rattle.model.specs.Replay.{Event, Origin, Replay, Replayed, Taken, rowAllows, rowAfter, groupOf, openedAfter, agreesWith, takeItem, takeItems}
 use Rattle.model.specs.HappensBefore.{At, isCommand, rankOf}
-use Rattle.model.specs.Traces.{isPop, followedAtOnce, transfersTogether, Each, all, one}
+use Rattle.model.specs.Traces.{isPop, followedAtOnce, transfersTogether}
 use Rattle.model.proofs.Selections.{split-at}
 use Rattle.model.proofs.ItemKinds.{transfer-no-bar, transfer-command}
 use Rattle.model.proofs.Laws.{true-and, ok-injective}

@@ -10,7 +10,7 @@ use lib.Dec.{ltb, eqb}
 use Rattle.model.specs.declared.Header.{Header}
 use Rattle.model.specs.Limits.{maxTokens, wordValues}
 use Rattle.model.specs.Refusals.{ok, programLength, programRange, programForm}
-use Rattle.model.specs.Choice.{bit, lookup}
+use Rattle.model.specs.Choice.{bit, lookup, Each, all, one}
 use Rattle.model.specs.Bytes.{AreBytes, Reader, _>>=_, here, fault, byte, judged, optional}
 use Rattle.model.specs.Expressions.{Operator, sum, difference, product, equal, less, truth, operate, evaluate}
 use Rattle.model.specs.Expressions.{Expression, constant, register, ownRank, rankCount, apply}
@@ -18,7 +18,6 @@ use Rattle.model.specs.Expressions.{Token, constantToken, registerToken, ownRan
 use Rattle.model.specs.Expressions.{Counted, noTokenLeft, afterToken, onToken, readExpression, expression}
 use Rattle.model.specs.Programs.{Program, Command, load, store, assign, assume, read, write, bar, Fields, CommandForm, forms, judgedForm}
 use Rattle.model.specs.Programs.{readHeader, readFields, readTransition, programReaderIn, programReader, readProgramIn, readProgram}
-use Rattle.model.specs.Traces.{Each, all, one}
 use Rattle.model.proofs.Laws.{decided, refused≢ok}
 use Rattle.model.proofs.Bytes.{Finds, finds-anything, finds-pure, finds-bind, finds-times, finds-word, whole-finds}
 use Rattle.model.proofs.Tables.{lookup-holds}

@@ -9,13 +9,13 @@ use lib.ListN.{length}
 use Rattle.model.specs.declared.Item.{Item}
 use Rattle.model.specs.Limits.{wordValues}
 use Rattle.model.specs.Refusals.{ok, barrierRow, queuesLeft}
+use Rattle.model.specs.Choice.{Each, all, one}
 use Rattle.model.specs.Bytes.{AreBytes}
 use Rattle.model.specs.Programs.{Program, Command, readProgram}
 use Rattle.model.specs.Records.{readRecord}
 use Rattle.model.specs.Machine.{State, Delivery, Action, loads, stores, assigns, passes, issues, meets, valueOf}
 use Rattle.model.specs.Machine.{Start, initial, moveTo, setRegister, setCell, setRequests, setDeliveries}
 use Rattle.model.specs.Replay.{Origin, Replay, Taken, Replayed, perform, takeItem, takeItems, begin, quiet, atEnd, replay}
-use Rattle.model.specs.Traces.{Each, all, one}
 use Rattle.model.specs.Checks.{Accepted, acceptIn, accept}
 use Rattle.model.proofs.Laws.{bind-ok, required, ok-injective, put₂-holds}
 use Rattle.model.proofs.Ranges.{Ranged, header-fits}
