@@ -13,7 +13,7 @@ use Rattle.model.specs.Rules.{Bare, IsRun}
 use Rattle.model.specs.Replay.{Replayed, replay}
 use Rattle.model.specs.Traces.{ChosenIn, InRecord}
 use Rattle.acceptance.specs.Bare.{bare}
-use Rattle.acceptance.specs.Ranges.{QueueIn, InRange}
+use Rattle.acceptance.specs.Ranges.{NamedIn, InRange}
 use Rattle.acceptance.proofs.Soundness.{accepted-run}
 use Rattle.acceptance.proofs.Completeness.{run-accepted}
 
@@ -31,12 +31,12 @@ accepted-iff-run P start items last ranges =
 pub in-record-in-range : (P : Program) {items : List Item} → Each (InRecord (P .header)) items → Each (InRange P) items
 in-record-in-range P all = all
 in-record-in-range P (one {a = i} h rest) =
-    one (record { rank = record { low = h .low; high = h .high }; queue = go (partOf (i .kind)) (h .choice) }) (in-record-in-range P rest)
+    one (record { rank = record { low = h .low; high = h .high }; named = go (partOf (i .kind)) (h .choice) }) (in-record-in-range P rest)
   where
-    go : (p : Part) → ChosenIn (P .header) p i → QueueIn P p i
+    go : (p : Part) → ChosenIn (P .header) p i → NamedIn P p i
     go command c = tt
-    go fetch c = c
-    go delivery c = c
+    go fetch (queue, remote) = record { queue = queue; remote = remote }
+    go delivery (queue, remote) = record { queue = queue; remote = remote }
 
 -- The same for items as a record has them.
 pub record-accepted-iff-run : (P : Program) (start : Start) (items : List Item) (last : Bare) → Each (InRecord (P .header)) items →

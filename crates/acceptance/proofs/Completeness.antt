@@ -24,6 +24,7 @@ use Rattle.acceptance.specs.Bare.{bare}
 use Rattle.acceptance.proofs.Quiet.{final-quiet}
 use Rattle.acceptance.proofs.Appending.{joined, takeItems-append}
 use Rattle.acceptance.proofs.Marks.{successor}
+use Rattle.acceptance.proofs.Choosing.{Chosen}
 use Rattle.acceptance.proofs.Single.{Takes, asks-takes, fetch-takes, delivery-takes}
 use Rattle.acceptance.proofs.Rows.{moved, moved-none, moved-next, moved-next-control, enabled-elsewhere}
 use Rattle.acceptance.proofs.Bars.{rowPast, BarTaken, bar-taken, single-row}
@@ -130,10 +131,14 @@ module _ (P : Program) where
       single-taken s row (ap isBar (recorded .kind)) (λ allowed. asks-takes P s i allowed enabled (reading operands) recorded)
   step-taken s row (Step.write enabled operands) (one {i = i} recorded all) =
       single-taken s row (ap isBar (recorded .kind)) (λ allowed. asks-takes P s i allowed enabled (writing operands) recorded)
-  step-taken s row (Step.popa rank queue head) (one {i = i} recorded all) =
-      single-taken s row (ap isBar (recorded .kind)) (λ allowed. fetch-takes P s i allowed head recorded)
-  step-taken s row (Step.popb rank queue head) (one {i = i} recorded all) =
-      single-taken s row (ap isBar (recorded .kind)) (λ allowed. delivery-takes P s i allowed head recorded)
+  step-taken s row (Step.popa rank queue first) (one {i = i} recorded all) =
+      single-taken s row (ap isBar (recorded .kind)) (λ allowed. fetch-takes P s i allowed (Chosen.head first) recorded)
+  step-taken s row (Step.popa-for rank queue named first) (one {i = i} recorded all) =
+      single-taken s row (ap isBar (recorded .kind)) (λ allowed. fetch-takes P s i allowed (Chosen.for-rank named first) recorded)
+  step-taken s row (Step.popb rank queue first) (one {i = i} recorded all) =
+      single-taken s row (ap isBar (recorded .kind)) (λ allowed. delivery-takes P s i allowed (Chosen.head first) recorded)
+  step-taken s row (Step.popb-for rank queue named first) (one {i = i} recorded all) =
+      single-taken s row (ap isBar (recorded .kind)) (λ allowed. delivery-takes P s i allowed (Chosen.for-rank named first) recorded)
   step-taken s row (Step.bar t st′ enabled) recorded =
       let s₀ : Bare = bare (s .machine) in
       row-taken s₀ t st′ enabled (P .header .ranks) 0 (omega arith) s (row ∙ rowPast-zero) (sym (moved-none s₀ st′)) recorded

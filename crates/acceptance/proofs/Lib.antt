@@ -5,6 +5,7 @@ pub mod Quiet
 pub mod ItemKinds
 pub mod Agreement
 pub mod Marks
+pub mod Choosing
 pub mod Single
 pub mod Rows
 pub mod Bars

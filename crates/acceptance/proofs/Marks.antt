@@ -2,7 +2,7 @@
 -- without marks are the same, and in the queues a list with its marks erased takes the place of a list with its marks erased.
 use Prim.Native.Nat.{ℕ}
 use mathlib.Core.Path.{_≡_, refl, ap, _∙_}
-use mathlib.Core.List.{List, [], _∷_, _++_, map, map-append, nil≢cons, head-eq-of-cons-eq, tail-eq-of-cons-eq}
+use mathlib.Core.List.{List, [], _∷_, _++_, map, map-append}
 use Rattle.model.specs.declared.Item.{Item}
 use Rattle.model.specs.Programs.{Program}
 use Rattle.model.specs.Machine.{State, Request, Delivery, Action, loads, stores, assigns, passes, issues, meets, address, cellAt, moveTo, setRegister, setCell, setRequests, setDeliveries}
@@ -10,12 +10,6 @@ use Rattle.model.specs.Rules.{Bare, ask, send}
 use Rattle.model.specs.Replay.{Origin, Replay, perform, sentOn, afterFetch, afterDelivery}
 use Rattle.model.proofs.Laws.{put₂-map}
 use Rattle.acceptance.specs.Bare.{bare, bareRequest, bareDelivery}
-
--- A list that is not empty without its marks is not empty with them.
-pub map-cons : {A B : Type 0} (f : A → B) (l : List A) {b : B} {bs : List B} → map f l ≡ b ∷ bs →
-    (a : A) × (rest : List A) × (l ≡ a ∷ rest) × (f a ≡ b) × (map f rest ≡ bs)
-map-cons f [] h = absurd (nil≢cons h)
-map-cons f (a ∷ l) h = (a, l, refl, head-eq-of-cons-eq h, tail-eq-of-cons-eq h)
 
 -- A queue with its marks erased is set to a list with its marks erased.
 module _ {Mark : Type 0} (s : State Mark) (rank queue : ℕ) where
@@ -56,7 +50,7 @@ successor P s r (loads x a) q₂ = setRegister (moveTo s r q₂) r x (s .cells r
 successor P s r (stores a v) q₂ = setCell (moveTo s r q₂) (address r a) v
 successor P s r (assigns x v) q₂ = setRegister (moveTo s r q₂) r x v
 successor P s r passes q₂ = moveTo s r q₂
-successor P s r (issues q source destination) q₂ = ask P (moveTo s r q₂) r q source destination
+successor P s r (issues q remote source destination) q₂ = ask P (moveTo s r q₂) r q remote source destination
 successor P s r meets q₂ = moveTo s r q₂
 
 -- A command item leaves it.
@@ -67,15 +61,15 @@ bare-perform P m r origin (loads x a) q₂ = refl
 bare-perform P m r origin (stores a v) q₂ = refl
 bare-perform P m r origin (assigns x v) q₂ = refl
 bare-perform P m r origin passes q₂ = refl
-bare-perform P m r origin (issues q source destination) q₂ =
-    let entry : Request Origin = record { source = source; destination = destination; mark = origin } in
+bare-perform P m r origin (issues q remote source destination) q₂ =
+    let entry : Request Origin = record { remote = remote; source = source; destination = destination; mark = origin } in
     ap (λ (s : Bare). moveTo s r q₂) (bare-setRequests m r q (m .requests r q ++ entry ∷ [])) ∙
     ap (setRequests (moveTo (bare m) r q₂) r q) (map-append bareRequest (m .requests r q) (entry ∷ []))
 bare-perform P m r origin meets q₂ = refl
 
--- The successor states of the rules for pops, by the head of the queue and the rest.
+-- The successor states of the rules for pops, by the entry that is taken and the entries that are left.
 abbrev pub fetchSuccessor : Program → Bare → (r q : ℕ) → Request (Unit {0}) → List (Request (Unit {0})) → Bare
-fetchSuccessor P s r q a α = send P (setRequests s r q α) r q (a .destination) (cellAt (s .cells) (a .source))
+fetchSuccessor P s r q a α = send P (setRequests s r q α) r q (a .remote) (a .destination) (cellAt (s .cells) (a .source))
 
 abbrev pub deliverySuccessor : Bare → (r q : ℕ) → Delivery (Unit {0}) → List (Delivery (Unit {0})) → Bare
 deliverySuccessor s r q b β = setCell (setDeliveries s r q β) (b .destination) (b .value)

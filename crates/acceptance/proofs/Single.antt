@@ -1,7 +1,7 @@
 -- An item other than a bar is a step of Table 1 exactly if the replay takes it.
-use Prim.Native.Nat.{ℕ}
+use Prim.Native.Nat.{ℕ, _≤_}
 use mathlib.Core.Path.{_≡_, refl, sym, ap, ap₂, subst, subst₂, _∙_}
-use mathlib.Core.Bool.{true, false, true≢false}
+use mathlib.Core.Bool.{Bool, true, false, true≢false}
 use mathlib.Core.List.{List, [], _∷_, map}
 use mathlib.Core.Logic.{_↔_, Iff·rfl}
 use mathlib.Core.Option.{Option, some}
@@ -12,14 +12,15 @@ use Rattle.model.specs.ItemKinds.{isBar, partOf}
 use Rattle.model.specs.Programs.{Program, Command, kindOf, Transition}
 use Rattle.model.specs.Machine.{Request, Delivery, Access, Action, readOf, writeOf, cellAt}
 use Rattle.model.specs.Rules.{Bare, Label, command, pop, Rank, Enabled, Step, Recorded, ChosenAs, PlacedAs, Queue}
-use Rattle.model.specs.Replay.{Replay, Taken, accessOf, rowAllows, afterCommand, afterFetch, afterDelivery}
+use Rattle.model.specs.Replay.{Replay, Taken, accessOf, rowAllows, afterCommand, isFor, afterFetch, afterDelivery}
 use Rattle.model.proofs.ItemKinds.{partOf-command}
-use Rattle.model.proofs.Replay.{CommandTaken, PopTaken, ItemTaken, commands, fetches, delivers, oldest-first, first-oldest}
+use Rattle.model.proofs.Replay.{CommandTaken, PopTaken, ItemTaken, commands, fetches, delivers}
 use Rattle.model.proofs.Actions.{Asks, loading, storing, assigning, passing, reading, writing, meeting, action-asks, asks-action}
 use Rattle.acceptance.specs.Bare.{bare, bareRequest, bareDelivery}
-use Rattle.acceptance.specs.Ranges.{QueueIn, InRange}
+use Rattle.acceptance.specs.Ranges.{PopIn, NamedIn, InRange}
 use Rattle.acceptance.proofs.ItemKinds.{chosen-transition}
-use Rattle.acceptance.proofs.Marks.{map-cons, successor, bare-perform, fetchSuccessor, deliverySuccessor, bare-fetched, bare-delivered}
+use Rattle.acceptance.proofs.Marks.{successor, bare-perform, fetchSuccessor, deliverySuccessor, bare-fetched, bare-delivered}
+use Rattle.acceptance.proofs.Choosing.{Chosen, head, for-rank, rule-takes, replay-takes, erased-taken, taken-marked}
 use Rattle.acceptance.proofs.Agreement.{agrees-placed, placed-agrees}
 
 -- An enabled command that asks for an action is a step, unless it is a bar.
@@ -53,39 +54,48 @@ pub record Takes (P : Program) (s : Replay) (i : Item) (last : Bare) : Type 0 wh
   pub item : ItemTaken P s i taken
   pub state : bare (taken .state .machine) ≡ last
 
--- What both pops have in common: `queues` with the marks, the access of an entry without its mark, and the states that the two sides leave.
+-- What both pops have in common: `queues` with the marks, the remote rank and the access of an entry without its mark, and the states that the two
+-- sides leave.
 module _ (P : Program) (s : Replay) (i : Item) (kind : Kind) {Entry Erased : Type 0} (erase : Entry → Erased) (queues : ℕ → ℕ → List Entry)
-    (access : Erased → Option Access) (leaves : Entry → List Entry → Taken) (after : (r q : ℕ) → Erased → List Erased → Bare)
+    (remote : Erased → ℕ) (access : Erased → Option Access) (leaves : Entry → List Entry → Taken) (after : (r q : ℕ) → Erased → List Erased → Bare)
     (unmarked : (a : Entry) (rest : List Entry) → bare (leaves a rest .state .machine) ≡ after (i .rank) (i .queue) (erase a) (map erase rest))
-    (choice : (l : Label) → ChosenAs l (partOf kind) i ↔ (i .queue ≡ l .queue)) where
+    (choice : (l : Label) → ChosenAs l (partOf kind) i ↔ ((i .queue ≡ l .queue) × (i .remote ≡ l .remote))) where
+  -- The entries that it chooses among, without their marks.
+  abbrev among : Erased → Bool
+  among x = isFor (i .remote) (remote x)
+
   -- The item takes this entry out of its queue.
   abbrev Popped : Entry → List Entry → Type 0
-  Popped a rest = PopTaken s i kind (queues (i .rank) (i .queue)) a rest (access (erase a))
+  Popped a rest = PopTaken s i kind (λ x. among (erase x)) (queues (i .rank) (i .queue)) a rest (access (erase a))
 
   -- A pop that is taken is a step, by its rule.
   pop-step : {a : Entry} {rest : List Entry} →
-      ((x : Erased) (α : List Erased) → map erase (queues (i .rank) (i .queue)) ≡ x ∷ α →
-      Step P (bare (s .machine)) (pop kind (i .rank) (i .queue) (access x) ∷ []) (after (i .rank) (i .queue) x α)) →
-      Popped a rest → Stepped P (bare (s .machine)) i (bare (leaves a rest .state .machine))
-  pop-step {a} {rest} rule t =
-      let l : Label = pop kind (i .rank) (i .queue) (access (erase a)) in
+      ((x : Erased) (α : List Erased) → Chosen P remote (map erase (queues (i .rank) (i .queue))) x α (i .remote) →
+      Step P (bare (s .machine)) (pop kind (i .rank) (i .queue) (i .remote) (access x) ∷ []) (after (i .rank) (i .queue) x α)) →
+      i .remote ≤ P .header .ranks → Popped a rest → Stepped P (bare (s .machine)) i (bare (leaves a rest .state .machine))
+  pop-step {a} {rest} rule high t =
+      let l : Label = pop kind (i .rank) (i .queue) (i .remote) (access (erase a)) in
       record {
         label = l;
-        recorded = record { kind = t .kind-is; rank = refl; choice = choice l .1 refl; access = agrees-placed i (access (erase a)) (t .agreed) };
+        recorded = record { kind = t .kind-is; rank = refl; choice = choice l .1 (refl, refl); access = agrees-placed i (access (erase a)) (t .agreed) };
         step =
             subst (Step P (bare (s .machine)) (l ∷ [])) (sym (unmarked a rest))
-            (rule (erase a) (map erase rest) (ap (map erase) (oldest-first (queues (i .rank) (i .queue)) (t .chosen))));
+            (rule (erase a) (map erase rest) (rule-takes P remote (i .remote) high (erased-taken erase among (queues (i .rank) (i .queue)) (t .chosen))));
       }
 
-  -- A pop whose queue has a head is taken.
-  pop-takes : rowAllows (s .row) i ≡ true → {r q : ℕ} {a : Erased} {α : List Erased} → map erase (queues r q) ≡ a ∷ α →
-      Recorded (pop kind r q (access a)) i → ((a : Entry) (rest : List Entry) → Popped a rest → ItemTaken P s i (leaves a rest)) →
+  -- A pop whose rule has an entry to take is taken.
+  pop-takes : rowAllows (s .row) i ≡ true → {r q n : ℕ} {a : Erased} {α : List Erased} → Chosen P remote (map erase (queues r q)) a α n →
+      Recorded (pop kind r q n (access a)) i → ((a : Entry) (rest : List Entry) → Popped a rest → ItemTaken P s i (leaves a rest)) →
       Takes P s i (after r q a α)
-  pop-takes allowed {r} {q} {a} {α} head recorded item =
-      let Goal : ℕ → ℕ → Type 0 = λ n k. map erase (queues n k) ≡ a ∷ α → Takes P s i (after n k a α) in
-      subst (λ n. Goal n q) (recorded .rank)
-      (subst (Goal (i .rank)) (choice (pop kind r q (access a)) .0 (recorded .choice)) λ h.
-      let (entry, rest, e, here, tail) = map-cons erase (queues (i .rank) (i .queue)) h in
+  pop-takes allowed {r} {q} {n} {a} {α} chosen recorded item =
+      let Goal : ℕ → ℕ → ℕ → Type 0 = λ k l m. Chosen P remote (map erase (queues k l)) a α m → Takes P s i (after k l a α) in
+      let (same-queue, same-remote) = choice (pop kind r q n (access a)) .0 (recorded .choice) in
+      subst (λ k. Goal k q n) (recorded .rank)
+      (subst₂ (Goal (i .rank)) same-queue same-remote λ h.
+      let found = taken-marked erase among (queues (i .rank) (i .queue)) (replay-takes P remote h) in
+      let entry : Entry = found .entry in
+      let rest : List Entry = found .rest in
+      let here : erase entry ≡ a = found .here in
       let placed : PlacedAs (access (erase entry)) i = subst (λ x. PlacedAs (access x) i) (sym here) (recorded .access) in
       record {
         taken = leaves entry rest;
@@ -94,12 +104,12 @@ module _ (P : Program) (s : Replay) (i : Item) (kind : Kind) {Entry Erased : Typ
             (record {
               allowed = allowed;
               kind-is = recorded .kind;
-              chosen = first-oldest e;
+              chosen = found .chosen;
               agreed = placed-agrees i (access (erase entry)) placed;
             });
-        state = unmarked entry rest ∙ ap₂ (after (i .rank) (i .queue)) here tail;
+        state = unmarked entry rest ∙ ap₂ (after (i .rank) (i .queue)) here (found .others);
       })
-      head
+      chosen
 
 -- What a popa reads, and what a popb writes.
 abbrev pub fetchAccess : {Mark : Type 0} → (cells : ℕ → ℕ → ℕ) → Request Mark → Option Access
@@ -107,6 +117,18 @@ fetchAccess cells a = readOf (a .source) (cellAt cells (a .source))
 
 abbrev pub deliveryAccess : {Mark : Type 0} → Delivery Mark → Option Access
 deliveryAccess b = writeOf (b .destination) (b .value)
+
+-- The two rules for a popa, and those for a popb.
+module _ (P : Program) {s : Bare} {r q : ℕ} (rank : Rank P r) (queue : Queue P q) where
+  fetch-rule : {n : ℕ} {a : Request (Unit {0})} {α : List (Request (Unit {0}))} → Chosen P (λ x. x .remote) (s .requests r q) a α n →
+      Step P s (pop Popa r q n (fetchAccess (s .cells) a) ∷ []) (fetchSuccessor P s r q a α)
+  fetch-rule (head h) = Step.popa rank queue h
+  fetch-rule (for-rank named o) = Step.popa-for rank queue named o
+
+  delivery-rule : {n : ℕ} {b : Delivery (Unit {0})} {β : List (Delivery (Unit {0}))} → Chosen P (λ x. x .remote) (s .deliveries r q) b β n →
+      Step P s (pop Popb r q n (deliveryAccess b) ∷ []) (deliverySuccessor s r q b β)
+  delivery-rule (head h) = Step.popb rank queue h
+  delivery-rule (for-rank named o) = Step.popb-for rank queue named o
 
 module _ (P : Program) (s : Replay) (i : Item) where
   -- A command item that is taken is a step, unless it is a bar.
@@ -137,13 +159,13 @@ module _ (P : Program) (s : Replay) (i : Item) where
   unfolding bare
   taken-step range single (commands t a c) = command-step (range .rank) single c
   taken-step range single (fetches a rest f) =
-      let queue : Queue P (i .queue) = subst (λ k. QueueIn P (partOf k) i) (f .kind-is) (range .queue) in
-      pop-step P s i Popa bareRequest (s .machine .requests) (fetchAccess (s .machine .cells)) (afterFetch s i) (fetchSuccessor P (bare (s .machine)))
-      (bare-fetched P s i) (λ l. Iff·rfl) (λ x α. Step.popa (range .rank) queue) f
+      let named : PopIn P i = subst (λ k. NamedIn P (partOf k) i) (f .kind-is) (range .named) in
+      pop-step P s i Popa bareRequest (s .machine .requests) (λ x. x .remote) (fetchAccess (s .machine .cells)) (afterFetch s i) (fetchSuccessor P (bare (s .machine)))
+      (bare-fetched P s i) (λ l. Iff·rfl) (λ x α. fetch-rule P (range .rank) (named .queue)) (named .remote) f
   taken-step range single (delivers b rest d) =
-      let queue : Queue P (i .queue) = subst (λ k. QueueIn P (partOf k) i) (d .kind-is) (range .queue) in
-      pop-step P s i Popb bareDelivery (s .machine .deliveries) deliveryAccess (afterDelivery s i) (deliverySuccessor (bare (s .machine)))
-      (bare-delivered s i) (λ l. Iff·rfl) (λ x β. Step.popb (range .rank) queue) d
+      let named : PopIn P i = subst (λ k. NamedIn P (partOf k) i) (d .kind-is) (range .named) in
+      pop-step P s i Popb bareDelivery (s .machine .deliveries) (λ x. x .remote) deliveryAccess (afterDelivery s i) (deliverySuccessor (bare (s .machine)))
+      (bare-delivered s i) (λ l. Iff·rfl) (λ x β. delivery-rule P (range .rank) (named .queue)) (named .remote) d
 
 module _ (P : Program) (s : Replay) (i : Item) (allowed : rowAllows (s .row) i ≡ true) where
   -- The item's own transition is enabled.
@@ -182,17 +204,17 @@ module _ (P : Program) (s : Replay) (i : Item) (allowed : rowAllows (s .row) i �
       (subst (λ n. PlacedAs (accessOf n a (s .machine .cells)) i) here (recorded .access)))
 
   -- The same of a popa, and of a popb.
-  pub fetch-takes : {r q : ℕ} {a : Request (Unit {0})} {α : List (Request (Unit {0}))} → bare (s .machine) .requests r q ≡ a ∷ α →
-      Recorded (pop Popa r q (fetchAccess (s .machine .cells) a)) i → Takes P s i (fetchSuccessor P (bare (s .machine)) r q a α)
+  pub fetch-takes : {r q n : ℕ} {a : Request (Unit {0})} {α : List (Request (Unit {0}))} →
+      Chosen P (λ x. x .remote) (bare (s .machine) .requests r q) a α n → Recorded (pop Popa r q n (fetchAccess (s .machine .cells) a)) i → Takes P s i (fetchSuccessor P (bare (s .machine)) r q a α)
   unfolding bare
-  fetch-takes head recorded =
-      pop-takes P s i Popa bareRequest (s .machine .requests) (fetchAccess (s .machine .cells)) (afterFetch s i) (fetchSuccessor P (bare
+  fetch-takes chosen recorded =
+      pop-takes P s i Popa bareRequest (s .machine .requests) (λ x. x .remote) (fetchAccess (s .machine .cells)) (afterFetch s i) (fetchSuccessor P (bare
       (s .machine)))
-      (bare-fetched P s i) (λ l. Iff·rfl) allowed head recorded fetches
+      (bare-fetched P s i) (λ l. Iff·rfl) allowed chosen recorded fetches
 
-  pub delivery-takes : {r q : ℕ} {b : Delivery (Unit {0})} {β : List (Delivery (Unit {0}))} → bare (s .machine) .deliveries r q ≡ b ∷ β →
-      Recorded (pop Popb r q (deliveryAccess b)) i → Takes P s i (deliverySuccessor (bare (s .machine)) r q b β)
+  pub delivery-takes : {r q n : ℕ} {b : Delivery (Unit {0})} {β : List (Delivery (Unit {0}))} →
+      Chosen P (λ x. x .remote) (bare (s .machine) .deliveries r q) b β n → Recorded (pop Popb r q n (deliveryAccess b)) i → Takes P s i (deliverySuccessor (bare (s .machine)) r q b β)
   unfolding bare
-  delivery-takes head recorded =
-      pop-takes P s i Popb bareDelivery (s .machine .deliveries) deliveryAccess (afterDelivery s i) (deliverySuccessor (bare (s .machine)))
-      (bare-delivered s i) (λ l. Iff·rfl) allowed head recorded delivers
+  delivery-takes chosen recorded =
+      pop-takes P s i Popb bareDelivery (s .machine .deliveries) (λ x. x .remote) deliveryAccess (afterDelivery s i) (deliverySuccessor (bare (s .machine)))
+      (bare-delivered s i) (λ l. Iff·rfl) allowed chosen recorded delivers

@@ -6,11 +6,11 @@ use Rattle.model.specs.Rules.{Bare}
 
 -- A request without its mark.
 abbrev pub bareRequest : {Mark : Type 0} → Request Mark → Request (Unit {0})
-bareRequest a = record { source = a .source; destination = a .destination; mark = tt }
+bareRequest a = record { remote = a .remote; source = a .source; destination = a .destination; mark = tt }
 
 -- A delivery without its mark.
 abbrev pub bareDelivery : {Mark : Type 0} → Delivery Mark → Delivery (Unit {0})
-bareDelivery b = record { destination = b .destination; value = b .value; mark = tt }
+bareDelivery b = record { remote = b .remote; destination = b .destination; value = b .value; mark = tt }
 
 -- A state without the marks of its queues' entries.
 unfoldable pub bare : {Mark : Type 0} → State Mark → Bare

@@ -24,7 +24,7 @@ use Rattle.model.specs.ItemForms.{itemForm, judgedItemForm}
 use Rattle.model.specs.Records.{readItemIn, readItem, recordReaderIn, readRecordIn, readRecord}
 use Rattle.model.specs.Machine.{Start, Request, Delivery, valueOf, operand, cellOperand, transfer, action}
 use Rattle.model.specs.Replay.{Origin, Replay, Taken, rowAllows, agreesWith, agreed, takeTransition, takeFetch, takeDelivery, takePart, takeItem}
-use Rattle.model.specs.Replay.{afterCommand, afterFetch, afterDelivery, oldest, takeItems, begin, quiet, atEnd, replay}
+use Rattle.model.specs.Replay.{afterCommand, afterFetch, afterDelivery, requestFor, deliveryFor, oldest, takeItems, begin, quiet, atEnd, replay}
 use Rattle.model.specs.Checks.{acceptIn, checkResultIn, checkResult}
 use Rattle.model.proofs.Laws.{decided}
 use Rattle.model.proofs.Faults.{Tabled, ok-tabled, refuse-tabled, bind-tabled, require-tabled, whole-tabled}
@@ -213,8 +213,8 @@ module _ (P : Program) where
     part-tabled : (p : Part) → Tabled CheckRow (takePart P s at i p)
     unfolding takePart
     part-tabled command = transition-tabled (getElem? (P .transitions) (i .transition))
-    part-tabled fetch = fetch-tabled (oldest (s .machine .requests (i .rank) (i .queue)))
-    part-tabled delivery = delivery-tabled (oldest (s .machine .deliveries (i .rank) (i .queue)))
+    part-tabled fetch = fetch-tabled (oldest (requestFor i) (s .machine .requests (i .rank) (i .queue)))
+    part-tabled delivery = delivery-tabled (oldest (deliveryFor i) (s .machine .deliveries (i .rank) (i .queue)))
 
     item-tabled : Tabled CheckRow (takeItem P s at i)
     unfolding takeItem

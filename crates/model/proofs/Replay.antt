@@ -110,6 +110,11 @@ module _ {A : Type 0} (among : A → Bool) where
   unfolding oldest
   oldest-only h passes = rw (h, passes)
 
+-- So a pop that is taken has taken the oldest entry that it chooses from.
+pub taken-oldest : {s : Replay} {i : Item} {kind : Kind} {Entry : Type 0} {among : Entry → Bool} {queue : List Entry} {entry : Entry}
+    {rest : List Entry} {access : Option Access} → PopTaken s i kind among queue entry rest access → Oldest among queue entry rest
+taken-oldest {among = among} {queue} taken = oldest-is among queue (taken .chosen)
+
 -- The test on the access comes last.
 agreed-ok : (at : ℕ) (after : Taken) {taken : Taken} → agreed at after ≡ ok taken →
     (agreesWith (after .event .item) (after .event .access) ≡ true) × (after ≡ taken)

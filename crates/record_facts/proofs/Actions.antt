@@ -15,7 +15,7 @@ Fits P (loads x a) kind = (isTransfer kind ≡ false) × (isBar kind ≡ false)
 Fits P (stores a v) kind = (isTransfer kind ≡ false) × (isBar kind ≡ false)
 Fits P (assigns x v) kind = (isTransfer kind ≡ false) × (isBar kind ≡ false)
 Fits P passes kind = (isTransfer kind ≡ false) × (isBar kind ≡ false)
-Fits P (issues q source destination) kind = (isTransfer kind ≡ true) × (isBar kind ≡ false) × (q < P .header .queues)
+Fits P (issues q remote source destination) kind = (isTransfer kind ≡ true) × (isBar kind ≡ false) × (q < P .header .queues)
 Fits P meets kind = kind ≡ Bar
 
 pub action-fits : {P : Program} {r : ℕ} {registers : ℕ → ℕ} {c : Command} {a : Action} → Asks P r registers c a → Fits P a (kindOf c)

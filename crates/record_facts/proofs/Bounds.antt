@@ -29,8 +29,9 @@ use Rattle.model.proofs.Laws.{Within, decided, and-true, bind-ok, required, ok-
 use Rattle.model.proofs.Bytes.{Finds, finds-anything, finds-pure, finds-bind, finds-judged, finds-times, finds-weaker, whole-finds}
 use Rattle.model.proofs.Ranges.{Ranged, item-finds, header-fits}
 use Rattle.model.proofs.Actions.{Asks, loading, storing, assigning, passing, reading, writing, meeting, action-asks}
-use Rattle.model.proofs.Replay.{CommandTaken, ItemTaken, commands, fetches, delivers, item-taken, oldest-first, sameAddress-true}
-use Rattle.record_facts.proofs.Rows.{joining, group-joined, group-opened, count-joined, count-opened, each-snoc, each-first}
+use Rattle.model.proofs.Replay.{CommandTaken, ItemTaken, commands, fetches, delivers, item-taken, taken-oldest, sameAddress-true}
+use Rattle.record_facts.proofs.Rows.{joining, group-joined, group-opened, count-joined, count-opened, each-snoc}
+use Rattle.record_facts.proofs.Queues.{oldest-out, each-out}
 
 -- The entries of every queue, and an open row, are of groups that are numbered.
 record Bounded (s : Replay) : Type 0 where
@@ -82,7 +83,7 @@ module _ (P : Program) (s : Replay) (i : Item) (b : Bounded s) where
     requests-performed (stores c v) = requests-later
     requests-performed (assigns x v) = requests-later
     requests-performed passes = requests-later
-    requests-performed (issues q source destination) =
+    requests-performed (issues q remote source destination) =
         put₂-holds (Each _) (s .machine .requests) (i .rank) q (each-snoc (requests-later (i .rank) q) own) requests-later
     requests-performed meets = requests-later
 
@@ -93,7 +94,7 @@ module _ (P : Program) (s : Replay) (i : Item) (b : Bounded s) where
     deliveries-performed (stores c v) = deliveries-later
     deliveries-performed (assigns x v) = deliveries-later
     deliveries-performed passes = deliveries-later
-    deliveries-performed (issues q source destination) = deliveries-later
+    deliveries-performed (issues q remote source destination) = deliveries-later
     deliveries-performed meets = deliveries-later
 
   stepped : {t : Taken} → ItemTaken P s i t → Stepped s t
@@ -113,7 +114,7 @@ module _ (P : Program) (s : Replay) (i : Item) (b : Bounded s) where
         most = n .most;
       }
   stepped (fetches a rest c) =
-      let (first, others) = each-first (oldest-first _ (c .chosen)) (b .requests (i .rank) (i .queue)) in
+      let (first, others) = each-out (oldest-out (taken-oldest c)) (b .requests (i .rank) (i .queue)) in
       record {
         bounded =
             record {
@@ -127,7 +128,7 @@ module _ (P : Program) (s : Replay) (i : Item) (b : Bounded s) where
         most = omega arith;
       }
   stepped (delivers d rest c) =
-      let (first, others) = each-first (oldest-first _ (c .chosen)) (b .deliveries (i .rank) (i .queue)) in
+      let (first, others) = each-out (oldest-out (taken-oldest c)) (b .deliveries (i .rank) (i .queue)) in
       record {
         bounded =
             record {

@@ -23,7 +23,7 @@ performed-cells rank origin (loads x c) s = refl
 performed-cells rank origin (stores c v) s = refl
 performed-cells rank origin (assigns x v) s = refl
 performed-cells rank origin passes s = refl
-performed-cells rank origin (issues q source destination) s = refl
+performed-cells rank origin (issues q remote source destination) s = refl
 performed-cells rank origin meets s = refl
 
 -- A step writes its event's access.
@@ -60,7 +60,7 @@ action-reads rank (loads x c) cells = reads-cell cells (address rank c)
 action-reads rank (stores c v) cells = writes-cell cells (address rank c) v
 action-reads rank (assigns x v) cells = reads-none cells
 action-reads rank passes cells = reads-none cells
-action-reads rank (issues q source destination) cells = reads-none cells
+action-reads rank (issues q remote source destination) cells = reads-none cells
 action-reads rank meets cells = reads-none cells
 
 move-reads : {P : Program} {s s′ : Replay} {e : Event} → Move P s e s′ → ReadsFrom (s .machine .cells) (e .access)

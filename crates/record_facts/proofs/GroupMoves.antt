@@ -18,7 +18,7 @@ use Rattle.model.specs.Replay.{Origin, Event, Replay, begin, rowAllows, groupOf
 use Rattle.model.specs.HappensBefore.{rankOf}
 use Rattle.model.specs.Checks.{groupEvents}
 use Rattle.model.proofs.ItemKinds.{sameKind-true}
-use Rattle.model.proofs.Replay.{FetchTaken, DeliveryTaken}
+use Rattle.model.proofs.Replay.{FetchTaken, DeliveryTaken, taken-oldest}
 use Rattle.model.proofs.Laws.{decided}
 use Rattle.record_facts.specs.Facts.{Local}
 use Rattle.record_facts.proofs.Moves.{Commands, Move, commands, fetches, delivers}
@@ -145,10 +145,17 @@ module _ {P : Program} {local : ℕ → ℕ → Local} {s : Replay} {done : List
   fetch-groups : (i : Item) (a : Request Origin) (rest : List (Request Origin)) → FetchTaken s i a rest →
       Groups P local (done ++ afterFetch s i a rest .event ∷ []) (afterFetch s i a rest .state)
   fetch-groups i a rest c =
-      let out = oldest-out (s .machine .requests (i .rank) (i .queue)) (c .chosen) in
+      let taken = taken-oldest c in
+      let out = oldest-out taken in
       let own = out-own requestGroup (requestGroup a) out refl in
-      let pops : Pops (afterFetch s i a rest .event) (i .rank) (i .queue) (a .mark) =
-      record { rank-is = refl; item-queue = refl; queue-is = refl; place = refl } in
+      let pops : Pops (afterFetch s i a rest .event) (i .rank) (i .queue) (a .mark) (a .remote) =
+      record {
+        rank-is = refl;
+        item-queue = refl;
+        queue-is = refl;
+        place = refl;
+        for-remote = taken .passes;
+      } in
       pop-groups (fetches i a rest c) (no-row (s .row) i (c .allowed) (rw (c .kind-is) refl)) refl refl
       (known-group requestGroup out (ap (λ w. w .requests (i .rank) (i .queue))))
       (λ stood. rw (stands-fetch s done i a rest) (fetch-status stood _ (i .rank) (i .queue) _ a _ (c .kind-is) pops refl own))
@@ -156,10 +163,17 @@ module _ {P : Program} {local : ℕ → ℕ → Local} {s : Replay} {done : List
   delivery-groups : (i : Item) (b : Delivery Origin) (rest : List (Delivery Origin)) → DeliveryTaken s i b rest →
       Groups P local (done ++ afterDelivery s i b rest .event ∷ []) (afterDelivery s i b rest .state)
   delivery-groups i b rest c =
-      let out = oldest-out (s .machine .deliveries (i .rank) (i .queue)) (c .chosen) in
+      let taken = taken-oldest c in
+      let out = oldest-out taken in
       let own = out-own deliveryGroup (deliveryGroup b) out refl in
-      let pops : Pops (afterDelivery s i b rest .event) (i .rank) (i .queue) (b .mark) =
-      record { rank-is = refl; item-queue = refl; queue-is = refl; place = refl } in
+      let pops : Pops (afterDelivery s i b rest .event) (i .rank) (i .queue) (b .mark) (b .remote) =
+      record {
+        rank-is = refl;
+        item-queue = refl;
+        queue-is = refl;
+        place = refl;
+        for-remote = taken .passes;
+      } in
       pop-groups (delivers i b rest c) (no-row (s .row) i (c .allowed) (rw (c .kind-is) refl)) refl refl
       (known-group deliveryGroup out (ap (λ w. w .deliveries (i .rank) (i .queue))))
       (λ stood. rw (stands-delivery s done i b rest) (delivery-status stood _ (i .rank) (i .queue) b _ (c .kind-is) pops refl own))

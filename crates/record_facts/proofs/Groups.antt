@@ -55,14 +55,14 @@ stands-after {P} {local} {s′ = s′} {e} done step g own others =
 module _ {P : Program} {local : ℕ → ℕ → Local} {s : Replay} (done : List Event)
     (now : (rank : ℕ) → local rank (s .taken rank) ≡ localOf s rank) (i : Item) (t : Transition) where
   -- A transfer issues its request.
-  issues-status : (q : ℕ) (source destination : Address) → Commands P s i t (issues q source destination) →
-      let g = originOf s i .group in let after = afterCommand P s i (t .target) (issues q source destination) in
+  issues-status : (q remote : ℕ) (source destination : Address) → Commands P s i t (issues q remote source destination) →
+      let g = originOf s i .group in let after = afterCommand P s i (t .target) (issues q remote source destination) in
       standing g done s ≡ unopened → Stands P local (done ++ after .event ∷ []) (after .state) g
   unfolding queueOf
-  issues-status q source destination c was =
+  issues-status q remote source destination c was =
       let g = originOf s i .group in
-      let e = afterCommand P s i (t .target) (issues q source destination) .event in
-      let issue : Issues P local e source destination =
+      let e = afterCommand P s i (t .target) (issues q remote source destination) .event in
+      let issue : Issues P local e remote source destination =
       record {
         kind = c .fits .0;
         low = c .in-record .low;
@@ -70,9 +70,9 @@ module _ {P : Program} {local : ℕ → ℕ → Local} {s : Replay} (done : List
         queue = c .fits .2;
         acts = λ at t′ found. let same : t′ ≡ t = cc (c .taken .found) in rw (now (i .rank), same) (c .taken .acts at);
       } in
-      rw (stands-transfer s done P i t q source destination)
-      (subst (λ w. Status P local g (plusRequest (i .rank) q (requestOf g e source destination) (plusEvent e w))) (sym was)
-      (issued e source destination issue))
+      rw (stands-transfer s done P i t q remote source destination)
+      (subst (λ w. Status P local g (plusRequest (i .rank) q (requestOf g e remote source destination) (plusEvent e w))) (sym was)
+      (issued e remote source destination issue))
 
   -- A command that is neither a transfer nor a bar is done.
   alone-status : (a : Action) → Commands P s i t a → isTransfer (i .kind) ≡ false → isBar (i .kind) ≡ false →
@@ -91,7 +91,7 @@ module _ {P : Program} {local : ℕ → ℕ → Local} {s : Replay} (done : List
   command-status (stores x v) c bar was = alone-status (stores x v) c (c .fits .0) bar was
   command-status (assigns x v) c bar was = alone-status (assigns x v) c (c .fits .0) bar was
   command-status passes c bar was = alone-status passes c (c .fits .0) bar was
-  command-status (issues q source destination) c bar was = issues-status q source destination c was
+  command-status (issues q remote source destination) c bar was = issues-status q remote source destination c was
   command-status meets c bar was = absurd (true≢false (rw (c .fits) at bar))
 
 -- A bar's group is the last one after it; before it, it is the row that ranks 1 to `row` have entered, and every other group is settled.

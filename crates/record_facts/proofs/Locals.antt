@@ -37,7 +37,7 @@ module _ (own : ℕ) (origin : Origin) where
   registers-kept (stores c v) s rank other = refl
   registers-kept (assigns x v) s rank other = row-other (s .registers) own x v rank other
   registers-kept passes s rank other = refl
-  registers-kept (issues q source destination) s rank other = refl
+  registers-kept (issues q remote source destination) s rank other = refl
   registers-kept meets s rank other = refl
 
   control-kept : (a : Action) (s : State Origin) → perform own origin a s .control ≡ s .control
@@ -46,7 +46,7 @@ module _ (own : ℕ) (origin : Origin) where
   control-kept (stores c v) s = refl
   control-kept (assigns x v) s = refl
   control-kept passes s = refl
-  control-kept (issues q source destination) s = refl
+  control-kept (issues q remote source destination) s = refl
   control-kept meets s = refl
 
   registers-moved : (a : Action) (s : State Origin) →
@@ -57,7 +57,7 @@ module _ (own : ℕ) (origin : Origin) where
   registers-moved (stores c v) s = (0, refl, refl)
   registers-moved (assigns x v) s = (0, refl, row-own (s .registers) own x v)
   registers-moved passes s = (0, refl, refl)
-  registers-moved (issues q source destination) s = (0, refl, refl)
+  registers-moved (issues q remote source destination) s = (0, refl, refl)
   registers-moved meets s = (0, refl, refl)
 
 -- A rank keeps its local state and its count through every step that is no command of its own.

@@ -5,14 +5,12 @@ use native.Mathlib.Omega.{arith}
 use mathlib.Core.Path.{_≡_, _∙_, ap, fun-ext}
 use mathlib.Core.Bool.{true, _&&_, Bool}
 use mathlib.Core.List.{List, [], _∷_, _++_}
-use mathlib.Core.Option.{some}
 use lib.Dec.{eqb}
 use borrow.Author.Tests.{eq-eqb, ne-eqb, eqb-true}
-use Rattle.model.specs.Choice.{select}
+use Rattle.model.specs.Choice.{select, Each, one}
 use Rattle.model.specs.Machine.{put₂}
-use Rattle.model.specs.Replay.{oldest}
 use Rattle.model.proofs.Selections.{select-own, select-other}
-use Rattle.model.proofs.Replay.{oldest-first}
+use Rattle.model.proofs.Replay.{Oldest}
 use Rattle.model.proofs.Laws.{decided, and-true, put₂-map}
 
 pub cons≢nil : {A : Type 0} {a : A} {l : List A} → ¬ (a ∷ l ≡ [])
@@ -23,9 +21,18 @@ pub data Out {A : Type 0} (a : A) : List A → List A → Type 0 where
   first : {l : List A} → Out a (a ∷ l) l
   later : {b : A} {l rest : List A} → Out a l rest → Out a (b ∷ l) (b ∷ rest)
 
--- The oldest entry is taken out of its queue.
-pub oldest-out : {A : Type 0} (l : List A) {a : A} {rest : List A} → oldest l ≡ some (a, rest) → Out a l rest
-oldest-out l h = rw (oldest-first l h) first
+-- The entry that a pop takes is taken out of its queue.
+out-middle : {A : Type 0} (older : List A) (a : A) (newer : List A) → Out a (older ++ a ∷ newer) (older ++ newer)
+out-middle [] a newer = first
+out-middle (b ∷ older) a newer = later (out-middle older a newer)
+
+pub oldest-out : {A : Type 0} {among : A → Bool} {l : List A} {a : A} {rest : List A} → Oldest among l a rest → Out a l rest
+oldest-out {a = a} o = rw (o .stands, o .leaves) (out-middle (o .older) a (o .newer))
+
+-- What holds of each entry holds of the one that is taken out, and of the others.
+pub each-out : {A : Type 0} {Holds : A → Type 0} {a : A} {l rest : List A} → Out a l rest → Each Holds l → Holds a × Each Holds rest
+each-out first (one h each) = (h, each)
+each-out (later o) (one h each) = let (taken, left) = each-out o each in (taken, one h left)
 
 -- Nothing is taken out of an empty list, and the one member out of a list of one.
 pub out-nothing : {A : Type 0} {a : A} {l rest : List A} → Out a l rest → ¬ (l ≡ [])

@@ -89,10 +89,3 @@ numbers-snoc first (suc count) =
 pub each-snoc : {A : Type 0} {Holds : A → Type 0} {l : List A} {a : A} → Each Holds l → Holds a → Each Holds (l ++ a ∷ [])
 each-snoc all h = one h all
 each-snoc (one p rest) h = one p (each-snoc rest h)
-
--- The first of some, and the others.
-pub each-first : {A : Type 0} {Holds : A → Type 0} {l : List A} {a : A} {rest : List A} → l ≡ a ∷ rest → Each Holds l → Holds a × Each Holds rest
-each-first {A} {Holds} e h = parts (subst (Each Holds) e h)
-  where
-    parts : {a : A} {rest : List A} → Each Holds (a ∷ rest) → Holds a × Each Holds rest
-    parts (one p q) = (p, q)

@@ -11,6 +11,7 @@ use Rattle.model.specs.ItemKinds.{isTransfer}
 use Rattle.model.specs.Programs.{Program, Transition}
 use Rattle.model.specs.Machine.{State, Request, Delivery, moveTo, setCell, setRequests, setDeliveries, Action, loads, stores, assigns, passes, issues, meets}
 use Rattle.model.specs.Replay.{Origin, Event, Replay, perform, originOf, afterCommand, sentOn, afterFetch, afterDelivery}
+use Rattle.model.proofs.Replay.{taken-oldest}
 use Rattle.record_facts.proofs.Actions.{Fits}
 use Rattle.record_facts.proofs.Moves.{Commands, Move, commands, fetches, delivers}
 use Rattle.record_facts.proofs.Appended.{group-own, group-other}
@@ -30,7 +31,7 @@ module _ (own : ℕ) (origin : Origin) where
   performed-deliveries (stores c v) s = refl
   performed-deliveries (assigns x v) s = refl
   performed-deliveries passes s = refl
-  performed-deliveries (issues q source destination) s = refl
+  performed-deliveries (issues q remote source destination) s = refl
   performed-deliveries meets s = refl
 
   performed-requests : (P : Program) (kind : Kind) (a : Action) (s : State Origin) → Fits P a kind → isTransfer kind ≡ false →
@@ -40,7 +41,7 @@ module _ (own : ℕ) (origin : Origin) where
   performed-requests P kind (stores c v) s fits plain = refl
   performed-requests P kind (assigns x v) s fits plain = refl
   performed-requests P kind passes s fits plain = refl
-  performed-requests P kind (issues q source destination) s fits plain = absurd (true≢false (sym (fits .0) ∙ plain))
+  performed-requests P kind (issues q remote source destination) s fits plain = absurd (true≢false (sym (fits .0) ∙ plain))
   performed-requests P kind meets s fits plain = refl
 
   performed-other : (g : ℕ) (a : Action) (s : State Origin) → ¬ (origin .group ≡ g) →
@@ -50,7 +51,7 @@ module _ (own : ℕ) (origin : Origin) where
   performed-other g (stores c v) s other = refl
   performed-other g (assigns x v) s other = refl
   performed-other g passes s other = refl
-  performed-other g (issues q source destination) s other = append-other requestGroup (s .requests) own q _ g other
+  performed-other g (issues q remote source destination) s other = append-other requestGroup (s .requests) own q _ g other
   performed-other g meets s other = refl
 
 -- Every group but the event's stays as it stands.
@@ -63,11 +64,11 @@ stands-other {s = s} done (commands i t a c) g other =
     (ap (ofGroup deliveryGroup g) (performed-deliveries (i .rank) (originOf s i) a (s .machine)))
 stands-other {s = s} done (fetches i a rest c) g other =
     same-standing (group-other g done _ other)
-    (take-other requestGroup (s .machine .requests) (i .rank) (i .queue) g (oldest-out _ (c .chosen)) other)
+    (take-other requestGroup (s .machine .requests) (i .rank) (i .queue) g (oldest-out (taken-oldest c)) other)
     (append-other deliveryGroup (s .machine .deliveries) (i .rank) (i .queue) (sentOn s a) g other)
 stands-other {s = s} done (delivers i b rest c) g other =
     same-standing (group-other g done _ other) refl
-    (take-other deliveryGroup (s .machine .deliveries) (i .rank) (i .queue) g (oldest-out _ (c .chosen)) other)
+    (take-other deliveryGroup (s .machine .deliveries) (i .rank) (i .queue) g (oldest-out (taken-oldest c)) other)
 
 -- The event's group.
 module _ (s : Replay) (done : List Event) where
@@ -82,13 +83,13 @@ module _ (s : Replay) (done : List Event) where
       (ap (ofGroup deliveryGroup (originOf s i .group)) (performed-deliveries (i .rank) (originOf s i) a (s .machine)))
 
   -- The group of a transfer gets its event and its request.
-  pub stands-transfer : (P : Program) (i : Item) (t : Transition) (q : ℕ) (source destination : Address) →
-      let g = originOf s i .group in let after = afterCommand P s i (t .target) (issues q source destination) in
+  pub stands-transfer : (P : Program) (i : Item) (t : Transition) (q remote : ℕ) (source destination : Address) →
+      let g = originOf s i .group in let after = afterCommand P s i (t .target) (issues q remote source destination) in
       standing g (done ++ after .event ∷ []) (after .state) ≡
-      plusRequest (i .rank) q (requestOf g (after .event) source destination) (plusEvent (after .event) (standing g done s))
+      plusRequest (i .rank) q (requestOf g (after .event) remote source destination) (plusEvent (after .event) (standing g done s))
   unfolding moveTo perform
-  stands-transfer P i t q source destination =
-      same-standing (group-own done (afterCommand P s i (t .target) (issues q source destination) .event))
+  stands-transfer P i t q remote source destination =
+      same-standing (group-own done (afterCommand P s i (t .target) (issues q remote source destination) .event))
       (append-own requestGroup (s .machine .requests) (i .rank) q _ (originOf s i .group) refl)
       refl
 

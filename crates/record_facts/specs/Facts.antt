@@ -16,7 +16,7 @@ use Rattle.model.specs.Choice.{when, select, numbersFrom, Each}
 use Rattle.model.specs.ItemKinds.{isBar, isTransfer}
 use Rattle.model.specs.Programs.{Program, Transition, kindOf}
 use Rattle.model.specs.Machine.{Start, Access, readOf, writeOf, put, put₂, Action, loads, stores, assigns, passes, issues, meets, action}
-use Rattle.model.specs.Replay.{Event, Replayed, joinsRow, agreesWith, accessOf, queueOf}
+use Rattle.model.specs.Replay.{Event, Replayed, joinsRow, agreesWith, accessOf, queueOf, isFor}
 use Rattle.model.specs.HappensBefore.{At, isCommand, rankOf}
 use Rattle.model.specs.Traces.{commandOf}
 use Rattle.model.specs.Checks.{groupEvents}
@@ -59,7 +59,7 @@ registersAfter (loads x a) value registers = put registers x value
 registersAfter (stores a v) value registers = registers
 registersAfter (assigns x v) value registers = put registers x v
 registersAfter passes value registers = registers
-registersAfter (issues q source destination) value registers = registers
+registersAfter (issues q remote source destination) value registers = registers
 registersAfter meets value registers = registers
 
 -- A command event takes its rank from one local state to the next: what the rank does depends on its local state and on what it loads, and on nothing
@@ -85,16 +85,27 @@ pub record PopOf (kind : Kind) (e p : Event) : Type 0 where
   pub queue : p .queue ≡ e .queue
   pub item-queue : p .item .queue ≡ e .queue
 
--- "A group is a read or write with its popa and popb; a barrier row; or any other single command item." `local` is where each rank is after so many
--- commands.
+-- A transfer with its popa and popb. `local` is where each rank is after so many commands: by that the transfer asks for a copy from `source` to
+-- `destination`, with this remote rank, and each of its pops names that rank or none.
+pub record TransferOf (P : Program) (local : ℕ → ℕ → Local) (e a b : Event) : Type 0 where
+  pub remote : ℕ
+  pub source : Address
+  pub destination : Address
+  pub value : ℕ
+  pub is-transfer : isTransfer (e .item .kind) ≡ true
+  pub fetch-of : PopOf Popa e a
+  pub delivery-of : PopOf Popb e b
+  pub fetch-for : isFor (a .item .remote) remote ≡ true
+  pub delivery-for : isFor (b .item .remote) remote ≡ true
+  pub reads : a .access ≡ readOf source value
+  pub writes : b .access ≡ writeOf destination value
+  pub acts : (at : ℕ) (t : Transition) → getElem? (P .transitions) (e .item .transition) ≡ some t →
+      action P (rankOf e) (local (rankOf e) (e .place) .registers) at (t .command) ≡ ok (issues (e .queue) remote source destination)
+
+-- "A group is a read or write with its popa and popb; a barrier row; or any other single command item."
 pub data Shape (P : Program) (local : ℕ → ℕ → Local) : List Event → Type 0 where
   single : (e : Event) → isCommand e ≡ true → isTransfer (e .item .kind) ≡ false → isBar (e .item .kind) ≡ false → Shape P local (e ∷ [])
-  transfer : (e a b : Event) (source destination : Address) (value : ℕ) →
-      isTransfer (e .item .kind) ≡ true → PopOf Popa e a → PopOf Popb e b →
-      a .access ≡ readOf source value → b .access ≡ writeOf destination value →
-      ((at : ℕ) (t : Transition) → getElem? (P .transitions) (e .item .transition) ≡ some t →
-      action P (rankOf e) (local (rankOf e) (e .place) .registers) at (t .command) ≡ ok (issues (e .queue) source destination)) →
-      Shape P local (e ∷ a ∷ b ∷ [])
+  transfer : (e a b : Event) → TransferOf P local e a b → Shape P local (e ∷ a ∷ b ∷ [])
   row : (bars : List Event) → Each (λ e. e .item .kind ≡ Bar) bars → map rankOf bars ≡ numbersFrom 1 (P .header .ranks) → Shape P local bars
 
 pub record Facts (P : Program) (start : Start) (items : List Item) (run : Replayed) : Type 0 where

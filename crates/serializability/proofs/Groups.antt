@@ -16,7 +16,7 @@ use Rattle.model.specs.Programs.{Program}
 use Rattle.model.specs.Replay.{Event}
 use Rattle.model.specs.HappensBefore.{At, isCommand, rankOf}
 use Rattle.model.proofs.ItemKinds.{transfer-command}
-use Rattle.record_facts.specs.Facts.{Shape, single, transfer, row, PopOf, Local}
+use Rattle.record_facts.specs.Facts.{Shape, single, transfer, row, PopOf, TransferOf, Local}
 
 -- A command by its kind.
 pub kind-command : (e : Event) {k : Kind} → e .item .kind ≡ k → isCommand e ≡ isCommandKind k
@@ -73,11 +73,13 @@ not-transfer : {x y : Event} → some x ≡ some y → isTransfer (x .item .kind
 not-transfer {x} {y} h t ty = true≢false (sym ty ∙ ap (λ z. isTransfer (z .item .kind)) (sym (Option·some-injective x y h)) ∙ t)
 
 -- A transfer with its pops.
-module _ (e a b : Event) (t : isTransfer (e .item .kind) ≡ true) (pa : PopOf Popa e a) (pb : PopOf Popb e b) where
+module _ {P : Program} {local : ℕ → ℕ → Local} (e a b : Event) (whole : TransferOf P local e a b) where
   three-role : (k : ℕ) (x : Event) → At (e ∷ a ∷ b ∷ []) k x → Role (e ∷ a ∷ b ∷ []) k x
-  three-role zero x h = commands (ap isCommand (sym (Option·some-injective e x h)) ∙ transfer-command (e .item .kind) t)
-  three-role (suc zero) x h = fetches e refl refl t (subst (PopOf Popa e) (Option·some-injective a x h) pa)
-  three-role (suc (suc zero)) x h = delivers e refl refl t (subst (PopOf Popb e) (Option·some-injective b x h) pb)
+  three-role zero x h = commands (ap isCommand (sym (Option·some-injective e x h)) ∙ transfer-command (e .item .kind) (whole .is-transfer))
+  three-role (suc zero) x h =
+      fetches e refl refl (whole .is-transfer) (subst (PopOf Popa e) (Option·some-injective a x h) (whole .fetch-of))
+  three-role (suc (suc zero)) x h =
+      delivers e refl refl (whole .is-transfer) (subst (PopOf Popb e) (Option·some-injective b x h) (whole .delivery-of))
   three-role (suc (suc (suc k))) x h = absurd (Option·none-ne-some _ h)
 
   three-transfer : (k : ℕ) (x : Event) → At (e ∷ a ∷ b ∷ []) k x → isTransfer (x .item .kind) ≡ true → Transferred (e ∷ a ∷ b ∷ []) x
@@ -87,19 +89,19 @@ module _ (e a b : Event) (t : isTransfer (e .item .kind) ≡ true) (pa : PopOf P
         b = b;
         fetched = refl;
         delivered = refl;
-        fetch-of = subst (λ y. PopOf Popa y a) (Option·some-injective e x h) pa;
-        delivery-of = subst (λ y. PopOf Popb y b) (Option·some-injective e x h) pb;
+        fetch-of = subst (λ y. PopOf Popa y a) (Option·some-injective e x h) (whole .fetch-of);
+        delivery-of = subst (λ y. PopOf Popb y b) (Option·some-injective e x h) (whole .delivery-of);
       }
-  three-transfer (suc zero) x h tx = absurd (not-transfer h (ap isTransfer (pa .kind-is)) tx)
-  three-transfer (suc (suc zero)) x h tx = absurd (not-transfer h (ap isTransfer (pb .kind-is)) tx)
+  three-transfer (suc zero) x h tx = absurd (not-transfer h (ap isTransfer (whole .fetch-of .kind-is)) tx)
+  three-transfer (suc (suc zero)) x h tx = absurd (not-transfer h (ap isTransfer (whole .delivery-of .kind-is)) tx)
   three-transfer (suc (suc (suc k))) x h tx = absurd (Option·none-ne-some _ h)
 
   three-together : (k m : ℕ) {x y : Event} → At (e ∷ a ∷ b ∷ []) k x → At (e ∷ a ∷ b ∷ []) m y → k < m → Together x y
   three-together k zero hx hy before = absurd (not-suc-le-zero before)
-  three-together zero (suc zero) hx hy before = both hx hy (fetched t pa)
-  three-together zero (suc (suc zero)) hx hy before = both hx hy (delivered t pb)
+  three-together zero (suc zero) hx hy before = both hx hy (fetched (whole .is-transfer) (whole .fetch-of))
+  three-together zero (suc (suc zero)) hx hy before = both hx hy (delivered (whole .is-transfer) (whole .delivery-of))
   three-together (suc zero) (suc zero) hx hy before = absurd (lt-irrefl 1 before)
-  three-together (suc zero) (suc (suc zero)) hx hy before = both hx hy (passed-on e pa pb)
+  three-together (suc zero) (suc (suc zero)) hx hy before = both hx hy (passed-on e (whole .fetch-of) (whole .delivery-of))
   three-together (suc (suc k)) (suc zero) hx hy before = absurd (not-suc-le-zero (le-of-suc-le-suc before))
   three-together (suc (suc k)) (suc (suc zero)) hx hy before = absurd (not-suc-le-zero (le-of-suc-le-suc (le-of-suc-le-suc before)))
   three-together k (suc (suc (suc m))) hx hy before = absurd (Option·none-ne-some _ hy)
@@ -109,19 +111,19 @@ module _ {P : Program} {local : ℕ → ℕ → Local} where
   pub shape-role : {l : List Event} → Shape P local l → (k : ℕ) (x : Event) → At l k x → Role l k x
   shape-role (single e c t b) zero x h = commands (ap isCommand (sym (Option·some-injective e x h)) ∙ c)
   shape-role (single e c t b) (suc k) x h = absurd (Option·none-ne-some _ h)
-  shape-role (transfer e a b source destination value t pa pb ra wb acts) k x h = three-role e a b t pa pb k x h
+  shape-role (transfer e a b whole) k x h = three-role e a b whole k x h
   shape-role (row bars kinds ranks) k x h = commands (kind-command x (each-at bars kinds k h))
 
   pub shape-transfer : {l : List Event} → Shape P local l → (k : ℕ) (x : Event) → At l k x → isTransfer (x .item .kind) ≡ true → Transferred l x
   shape-transfer (single e c t b) zero x h tx = absurd (not-transfer h t tx)
   shape-transfer (single e c t b) (suc k) x h tx = absurd (Option·none-ne-some _ h)
-  shape-transfer (transfer e a b source destination value t pa pb ra wb acts) k x h tx = three-transfer e a b t pa pb k x h tx
+  shape-transfer (transfer e a b whole) k x h tx = three-transfer e a b whole k x h tx
   shape-transfer (row bars kinds ranks) k x h tx = absurd (true≢false (sym tx ∙ ap isTransfer (each-at bars kinds k h)))
 
   pub shape-together : {l : List Event} → Shape P local l → (k m : ℕ) {x y : Event} → At l k x → At l m y → k < m → Together x y
   shape-together (single e c t b) k zero hx hy before = absurd (not-suc-le-zero before)
   shape-together (single e c t b) k (suc m) hx hy before = absurd (Option·none-ne-some _ hy)
-  shape-together (transfer e a b source destination value t pa pb ra wb acts) k m hx hy before = three-together e a b t pa pb k m hx hy before
+  shape-together (transfer e a b whole) k m hx hy before = three-together e a b whole k m hx hy before
   shape-together (row bars kinds ranks) k m {x} {y} hx hy before =
       let rank-x : rankOf x ≡ 1 + k = at-numbers 1 (P .header .ranks) k (rw ranks at (at-map rankOf bars k hx)) in
       let rank-y : rankOf y ≡ 1 + m = at-numbers 1 (P .header .ranks) m (rw ranks at (at-map rankOf bars m hy)) in

@@ -28,7 +28,7 @@ use Rattle.model.proofs.Selections.{split-at}
 use Rattle.model.proofs.ItemKinds.{transfer-no-bar, transfer-command}
 use Rattle.model.proofs.Laws.{true-and, ok-injective}
 use Rattle.model.proofs.Actions.{action-asks}
-use Rattle.record_facts.specs.Facts.{Local, CommandStep, PopOf, Shape, single, transfer, row, countOf, cellsAfter}
+use Rattle.record_facts.specs.Facts.{Local, CommandStep, PopOf, TransferOf, Shape, single, transfer, row, countOf, cellsAfter}
 use Rattle.serializability.proofs.Groups.{kind-command}
 use Rattle.serializability.proofs.Alike.{Alike, AllAlike, none-alike, more-alike, TakenAs, taken-to}
 use Rattle.serializability.proofs.Rows.{allowed-outside, stays-outside, rowWith, row-none, row-open, row-full, row-allows, row-enters}
@@ -51,10 +51,10 @@ pub data Grouped (P : Program) (local : ℕ → ℕ → Local) : List Event → 
   one-group : {group rest : List Event} → Shape P local group → Grouped P local rest → Grouped P local (group ++ rest)
 
 -- What a transfer's command asks for.
-abbrev Issues : Program → (ℕ → ℕ → Local) → Event → (source destination : Address) → Type 0
-Issues P local e source destination =
+abbrev Issues : Program → (ℕ → ℕ → Local) → Event → (remote : ℕ) → (source destination : Address) → Type 0
+Issues P local e remote source destination =
     (at : ℕ) (t : Transition) → getElem? (P .transitions) (e .item .transition) ≡ some t →
-    action P (rankOf e) (local (rankOf e) (e .place) .registers) at (t .command) ≡ ok (issues (e .queue) source destination)
+    action P (rankOf e) (local (rankOf e) (e .place) .registers) at (t .command) ≡ ok (issues (e .queue) remote source destination)
 
 -- The items, and one item taken before others.
 abbrev itemsOf : List Event → List Item
@@ -188,16 +188,18 @@ module _ (P : Program) (start : Start) (local : ℕ → ℕ → Local) (whole : 
           (asking opened) noRequests))
 
       -- A transfer's command leaves its request, alone in the queues.
-      issued : (source destination : Address) → isTransfer (e .item .kind) ≡ true → Issues P local e source destination → (opened at : ℕ) →
+      issued : (remote : ℕ) (source destination : Address) → isTransfer (e .item .kind) ≡ true → Issues P local e remote source destination →
+          (opened at : ℕ) →
           TakenAs P (idle done opened 0) at e
           (standing start local (done ++ e ∷ []) (openedAfter opened (e .item)) 0
-          (only (rankOf e) (e .queue) (record { source = source; destination = destination; mark = asking opened })) noDeliveries)
+          (only (rankOf e) (e .queue) (record { remote = remote; source = source; destination = destination; mark = asking opened })) noDeliveries)
       unfolding requestsAfter
-      issued source destination t acts opened at =
+      issued remote source destination t acts opened at =
           let c : isCommand e ≡ true = transfer-command (e .item .kind) t in
           let no-bar : isBar (e .item .kind) ≡ false = transfer-no-bar (e .item .kind) t in
           let step = stepped c in
-          let asks : step .act ≡ issues (e .queue) source destination = ok-injective (sym (step .acts 0) ∙ acts 0 (step .transition) (step .taken)) in
+          let asks : step .act ≡ issues (e .queue) remote source destination =
+          ok-injective (sym (step .acts 0) ∙ acts 0 (step .transition) (step .taken)) in
           taken-to (command-next c opened 0 at (allowed-outside (e .item) no-bar))
           (ap₂ (λ k act. standing start local (done ++ e ∷ []) (openedAfter opened (e .item)) k (requestsAfter (rankOf e)
           (asking opened) act noRequests) noDeliveries)
@@ -205,20 +207,23 @@ module _ (P : Program) (start : Start) (local : ℕ → ℕ → Local) (whole : 
 
     -- A transfer, its fetch and its delivery, and what comes after them.
     transferred : (done : List Event) (e a b : Event) (rest : List Event) → whole ≡ done ++ e ∷ a ∷ b ∷ rest →
-        (source destination : Address) (value : ℕ) → isTransfer (e .item .kind) ≡ true → PopOf Popa e a → PopOf Popb e b →
-        a .access ≡ readOf source value → b .access ≡ writeOf destination value → Issues P local e source destination → (opened at : ℕ) →
-        Continues rest → Simulated (idle done opened 0) at (e ∷ a ∷ b ∷ rest)
-    transferred done e a b rest split source destination value t pa pb reads writes acts opened at after =
+        TransferOf P local e a b → (opened at : ℕ) → Continues rest → Simulated (idle done opened 0) at (e ∷ a ∷ b ∷ rest)
+    transferred done e a b rest split x opened at after =
+        let t = x .is-transfer in
+        let pa = x .fetch-of in
+        let pb = x .delivery-of in
         let opened′ : ℕ = openedAfter opened (e .item) in
         let place : e .place ≡ countOf (rankOf e) done = turn done e (a ∷ b ∷ rest) split (transfer-command (e .item .kind) t) in
         let split-a : whole ≡ (done ++ e ∷ []) ++ a ∷ b ∷ rest = next done e (a ∷ b ∷ rest) split in
         let split-b : whole ≡ ((done ++ e ∷ []) ++ a ∷ []) ++ b ∷ rest = next (done ++ e ∷ []) a (b ∷ rest) split-a in
-        let found = finds (done ++ e ∷ []) a (b ∷ rest) split-a (record { writes = false; address = source; value = value }) reads refl in
-        three e a b rest t pa pb (issued done e (a ∷ b ∷ rest) split source destination t acts opened at)
-        (fetch-taken P start local (done ++ e ∷ []) opened′ (at + 1) e a destination value (asking done e (a ∷ b ∷ rest) split opened)
-        (pa .place ∙ place) (agreed (done ++ e ∷ []) a (b ∷ rest) split-a) pa source reads found)
-        (delivery-taken P start local ((done ++ e ∷ []) ++ a ∷ []) opened′ (at + 1 + 1) e b destination value
-        (asking done e (a ∷ b ∷ rest) split opened) (pb .place ∙ place) (agreed ((done ++ e ∷ []) ++ a ∷ []) b rest split-b) pb writes)
+        let found = finds (done ++ e ∷ []) a (b ∷ rest) split-a (record { writes = false; address = x .source; value = x .value }) (x .reads) refl in
+        three e a b rest t pa pb (issued done e (a ∷ b ∷ rest) split (x .remote) (x .source) (x .destination) t (x .acts) opened at)
+        (fetch-taken P start local (done ++ e ∷ []) opened′ (at + 1) e a (x .remote) (x .destination) (x .value)
+        (asking done e (a ∷ b ∷ rest) split opened) (x .fetch-for) (pa .place ∙ place) (agreed (done ++ e ∷ []) a (b ∷ rest) split-a) pa
+        (x .source) (x .reads) found)
+        (delivery-taken P start local ((done ++ e ∷ []) ++ a ∷ []) opened′ (at + 1 + 1) e b (x .remote) (x .destination) (x .value)
+        (asking done e (a ∷ b ∷ rest) split opened) (x .delivery-for) (pb .place ∙ place)
+        (agreed ((done ++ e ∷ []) ++ a ∷ []) b rest split-b) pb (x .writes))
         (after (((done ++ e ∷ []) ++ a ∷ []) ++ b ∷ []) opened′ (at + 1 + 1 + 1) (next ((done ++ e ∷ []) ++ a ∷ []) b rest split-b))
 
     -- The bars that a row still lacks, and what comes after it.
@@ -257,8 +262,8 @@ module _ (P : Program) (start : Start) (local : ℕ → ℕ → Local) (whole : 
         alone e rest t
         (silent done e rest split c t opened 0 0 at (allowed-outside (e .item) b) (stays-outside (P .header .ranks) (e .item) b))
         (simulate groups (done ++ e ∷ []) (openedAfter opened (e .item)) (at + 1) (next done e rest split))
-    simulate (one-group {rest = rest} (transfer e a b source destination value t pa pb reads writes acts) groups) done opened at split =
-        transferred done e a b rest split source destination value t pa pb reads writes acts opened at
+    simulate (one-group {rest = rest} (transfer e a b whole-transfer) groups) done opened at split =
+        transferred done e a b rest split whole-transfer opened at
         (λ done′ opened′ at′ split′. simulate groups done′ opened′ at′ split′)
     simulate (one-group {rest = rest} (row bars kinds ranks) groups) done opened at split =
         subst (λ k. Simulated (idle done opened k) at (bars ++ rest)) (row-none (P .header .ranks))

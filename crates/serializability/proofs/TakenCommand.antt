@@ -27,7 +27,7 @@ valueRead rank (loads x a) cells = cells rank a
 valueRead rank (stores a v) cells = 0
 valueRead rank (assigns x v) cells = 0
 valueRead rank passes cells = 0
-valueRead rank (issues q source destination) cells = 0
+valueRead rank (issues q remote source destination) cells = 0
 valueRead rank meets cells = 0
 
 -- A register of one rank changed: that rank's registers with it changed.
@@ -51,8 +51,9 @@ requestsAfter rank origin (loads x a) requests = requests
 requestsAfter rank origin (stores a v) requests = requests
 requestsAfter rank origin (assigns x v) requests = requests
 requestsAfter rank origin passes requests = requests
-requestsAfter rank origin (issues q source destination) requests =
-    put₂ requests rank q (requests rank q ++ record { source = source; destination = destination; mark = origin } ∷ [])
+requestsAfter rank origin (issues q remote source destination) requests =
+    put₂ requests rank q
+    (requests rank q ++ record { remote = remote; source = source; destination = destination; mark = origin } ∷ [])
 requestsAfter rank origin meets requests = requests
 
 -- What an action does to the parts of the machine: its rank's registers, the cell that it writes, the queue that it asks in.
@@ -79,7 +80,7 @@ performed rank origin (assigns x v) s =
     record { control = refl; registers = put₂-put (s .registers) rank x v; cells = refl; requests = refl; deliveries = refl }
 performed rank origin passes s =
     record { control = refl; registers = put-own (s .registers) rank; cells = refl; requests = refl; deliveries = refl }
-performed rank origin (issues q source destination) s =
+performed rank origin (issues q remote source destination) s =
     record { control = refl; registers = put-own (s .registers) rank; cells = refl; requests = refl; deliveries = refl }
 performed rank origin meets s =
     record { control = refl; registers = put-own (s .registers) rank; cells = refl; requests = refl; deliveries = refl }
@@ -102,7 +103,7 @@ reread rank (loads x a) value cells access is finds =
 reread rank (stores a v) value cells access is finds = record { same-access = sym is; same-registers = λ registers. refl }
 reread rank (assigns x v) value cells access is finds = record { same-access = sym is; same-registers = λ registers. refl }
 reread rank passes value cells access is finds = record { same-access = sym is; same-registers = λ registers. refl }
-reread rank (issues q source destination) value cells access is finds = record { same-access = sym is; same-registers = λ registers. refl }
+reread rank (issues q remote source destination) value cells access is finds = record { same-access = sym is; same-registers = λ registers. refl }
 reread rank meets value cells access is finds = record { same-access = sym is; same-registers = λ registers. refl }
 
 -- A command taken where the events so far stand.

@@ -9,9 +9,9 @@ use Rattle.model.specs.declared.Kind.the-variants.{Popa, Popb}
 use Rattle.model.specs.ItemKinds.{isBar}
 use Rattle.model.specs.Programs.{Program}
 use Rattle.model.specs.Machine.{Request, Delivery, Start, readOf, writeOf, cellAt, put₂, setCell, setRequests, setDeliveries}
-use Rattle.model.specs.Replay.{Event, Origin, Replay, agreesWith, agreed, afterFetch, afterDelivery}
+use Rattle.model.specs.Replay.{Event, Origin, Replay, agreesWith, agreed, isFor, requestFor, deliveryFor, afterFetch, afterDelivery}
 use Rattle.model.specs.HappensBefore.{isCommand, rankOf}
-use Rattle.model.proofs.Replay.{fetches, delivers, first-oldest}
+use Rattle.model.proofs.Replay.{fetches, delivers, oldest-only}
 use Rattle.model.proofs.Laws.{decided, put₂-same}
 use Rattle.record_facts.specs.Facts.{Local, PopOf, written, cellsAfter}
 use Rattle.serializability.proofs.Groups.{kind-command}
@@ -35,11 +35,14 @@ only-taken {A} {rank} {queue} {r} {q} entry same-rank same-queue =
     ap₂ (λ m n. put₂ (only rank queue entry) m n []) same-rank same-queue ∙
     fun-ext (λ k. fun-ext (λ l. decided (eqb k rank && eqb l queue) (λ t. rw t) (λ t. rw t)))
 
-module _ (P : Program) (start : Start) (local : ℕ → ℕ → Local) (done : List Event) (opened at : ℕ) (e p : Event) (destination : Address) (value : ℕ)
-    (mark : Origin) (place : p .place ≡ mark .place) (agreed : agreesWith (p .item) (p .access) ≡ true) where
+module _ (P : Program) (start : Start) (local : ℕ → ℕ → Local) (done : List Event) (opened at : ℕ) (e p : Event) (remote : ℕ) (destination : Address)
+    (value : ℕ) (mark : Origin) (names : isFor (p .item .remote) remote ≡ true) (place : p .place ≡ mark .place) (agreed : agreesWith (p .item) (p .access) ≡ true) where
   -- The queue's one delivery, before the delivery and after the fetch.
+  abbrev sending : (v : ℕ) → Delivery Origin
+  sending v = record { remote = remote; destination = destination; value = v; mark = mark }
+
   abbrev sent : Delivery Origin
-  sent = record { destination = destination; value = value; mark = mark }
+  sent = sending value
 
   abbrev waiting : Replay
   waiting = standing start local done opened 0 noRequests (only (rankOf e) (e .queue) sent)
@@ -48,7 +51,7 @@ module _ (P : Program) (start : Start) (local : ℕ → ℕ → Local) (done : L
   module _ (pop : PopOf Popa e p) (source : Address) (reads : p .access ≡ readOf source value)
       (found : value ≡ cellsAfter start done (source .rank) (source .cell)) where
     abbrev asked : Request Origin
-    asked = record { source = source; destination = destination; mark = mark }
+    asked = record { remote = remote; source = source; destination = destination; mark = mark }
 
     abbrev asking : Replay
     asking = standing start local done opened 0 (only (rankOf e) (e .queue) asked) noDeliveries
@@ -63,9 +66,8 @@ module _ (P : Program) (start : Start) (local : ℕ → ℕ → Local) (done : L
         (after-pop (λ r n. local r n .registers) done p c)
         (ap (written (cellsAfter start done)) (sym reads) ∙ after-access start done p)
         (only-taken asked (pop .rank) (pop .item-queue))
-        (ap₂ (λ r q. only r q (record { destination = destination; value = cellAt (cellsAfter start done) source; mark = mark })) (pop .rank)
-        (pop .item-queue) ∙
-        ap (λ v. only (rankOf e) (e .queue) (record { destination = destination; value = v; mark = mark })) (sym found))
+        (ap₂ (λ r q. only r q (sending (cellAt (cellsAfter start done) source))) (pop .rank) (pop .item-queue) ∙
+        ap (λ v. only (rankOf e) (e .queue) (sending v)) (sym found))
         (after-pop (λ r n. n) done p c)
         refl
         refl
@@ -79,7 +81,7 @@ module _ (P : Program) (start : Start) (local : ℕ → ℕ → Local) (done : L
         (record {
           allowed = allowed-outside (p .item) (ap isBar (pop .kind-is));
           kind-is = pop .kind-is;
-          chosen = first-oldest (only-found asked (pop .rank) (pop .item-queue));
+          chosen = oldest-only (requestFor (p .item)) (only-found asked (pop .rank) (pop .item-queue)) names;
           agreed = ap (agreesWith (p .item)) (sym same) ∙ agreed;
         }))
         (record { item = refl; place = place; queue = pop .queue ∙ sym (pop .item-queue); access = same }))
@@ -110,7 +112,7 @@ module _ (P : Program) (start : Start) (local : ℕ → ℕ → Local) (done : L
         (record {
           allowed = allowed-outside (p .item) (ap isBar (pop .kind-is));
           kind-is = pop .kind-is;
-          chosen = first-oldest (only-found sent (pop .rank) (pop .item-queue));
+          chosen = oldest-only (deliveryFor (p .item)) (only-found sent (pop .rank) (pop .item-queue)) names;
           agreed = ap (agreesWith (p .item)) (sym writes) ∙ agreed;
         }))
         (record { item = refl; place = place; queue = pop .queue ∙ sym (pop .item-queue); access = writes }))

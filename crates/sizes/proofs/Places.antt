@@ -14,7 +14,7 @@ use Rattle.model.specs.Expressions.{Expression}
 use Rattle.model.specs.Programs.{Program, Transition, Command, load, store, assign, assume, read, write, bar, kindOf}
 use Rattle.model.specs.Machine.{Start, Request, Delivery, valueOf, operand, cellOperand, transfer, action}
 use Rattle.model.specs.Replay.{Origin, Replay, Taken, rowAllows, agreesWith, agreed, takeTransition, takeFetch, takeDelivery, takePart, takeItem}
-use Rattle.model.specs.Replay.{afterCommand, afterFetch, afterDelivery, oldest, takeItems, begin, quiet, atEnd, replay}
+use Rattle.model.specs.Replay.{afterCommand, afterFetch, afterDelivery, requestFor, deliveryFor, oldest, takeItems, begin, quiet, atEnd, replay}
 use Rattle.model.proofs.Places.{Placed, placed-ok, placed-refuse, placed-bind, placed-later, placed-require}
 
 -- An item is refused at its number.
@@ -75,8 +75,8 @@ module _ (P : Program) (at : ℕ) where
     part-placed : (p : Part) → Placed at (takePart P s at i p)
     unfolding takePart
     part-placed command = transition-placed (getElem? (P .transitions) (i .transition))
-    part-placed fetch = fetch-placed (oldest (s .machine .requests (i .rank) (i .queue)))
-    part-placed delivery = delivery-placed (oldest (s .machine .deliveries (i .rank) (i .queue)))
+    part-placed fetch = fetch-placed (oldest (requestFor i) (s .machine .requests (i .rank) (i .queue)))
+    part-placed delivery = delivery-placed (oldest (deliveryFor i) (s .machine .deliveries (i .rank) (i .queue)))
 
     item-placed : Placed at (takeItem P s at i)
     unfolding takeItem

@@ -102,10 +102,10 @@ given-takes left enough = takes-bind (takes-word recordLength left enough) λ va
 -- What the fields of an item cost, by its map.
 abbrev itemCost : (map : ℕ) → ℕ
 itemCost map =
-    0 + cost (bit 7 map) 1 + cost (bit 5 map) 2 + cost (bit 4 map) 2 + cost (bit 3 map) 1 + cost (bit 2 map) 1 + cost (bit 1 map) 1
-    + cost (bit 0 map) 1
+    0 + cost (bit 7 map) 1 + cost (bit 6 map) 1 + cost (bit 5 map) 2 + cost (bit 4 map) 2 + cost (bit 3 map) 1 + cost (bit 2 map) 1
+    + cost (bit 1 map) 1 + cost (bit 0 map) 1
 
--- A right map has a transition or a queue, and not both; and a high byte only with a transition.
+-- A right map has a transition or a queue, and not both; and a high byte only with a transition, a remote rank only with a queue.
 map-cost : {kind : Kind} {map : ℕ} → HasMap kind map → leb (itemCost map) 8 ≡ true
 unfolding everyRow every itemKinds itemMaps
 map-cost has = each-map (λ kind map. leb (itemCost map) 8) refl has
@@ -129,6 +129,7 @@ item-fields-take header map kind =
     takes-bind (takes-optional (bit 3 map) 0 1 (field-takes (between 1 (header .ranks)) _ (omega arith))) λ place-rank.
     takes-bind (takes-optional (bit 4 map) 0 2 (cell-takes (header .cells) _ (omega arith))) λ place-cell.
     takes-bind (takes-optional (bit 5 map) Absent 2 (given-takes _ (omega arith))) λ given.
+    takes-bind (takes-optional (bit 6 map) 0 1 (field-takes (between 1 (header .ranks)) _ (omega arith))) λ remote.
     takes-bind (takes-optional (bit 7 map) low 1 (high-takes (header .transitions) low _ (omega arith))) λ transition.
     takes-pure _ (omega arith)
 

@@ -20,8 +20,9 @@ use Rattle.model.specs.Checks.{Accepted, acceptIn, accept}
 use Rattle.model.proofs.Laws.{bind-ok, required, ok-injective, put₂-holds}
 use Rattle.model.proofs.Ranges.{Ranged, header-fits}
 use Rattle.model.proofs.Actions.{Asks, loading, storing, assigning, passing, reading, writing, meeting, action-asks}
-use Rattle.model.proofs.Replay.{ItemTaken, commands, fetches, delivers, item-taken, oldest-first}
-use Rattle.record_facts.proofs.Rows.{each-snoc, each-first}
+use Rattle.model.proofs.Replay.{ItemTaken, commands, fetches, delivers, item-taken, taken-oldest}
+use Rattle.record_facts.proofs.Queues.{oldest-out, each-out}
+use Rattle.record_facts.proofs.Rows.{each-snoc}
 use Rattle.record_facts.proofs.Bounds.{read-ranged}
 use Rattle.serializability.proofs.Groups.{each-at}
 use Rattle.sizes.proofs.Constants.{ValueFits, evaluate-fits, values-fit}
@@ -44,7 +45,7 @@ ActionFits (loads x a) = Unit {0}
 ActionFits (stores a v) = Fits v
 ActionFits (assigns x v) = Fits v
 ActionFits passes = Unit {0}
-ActionFits (issues q source destination) = Unit {0}
+ActionFits (issues q remote source destination) = Unit {0}
 ActionFits meets = Unit {0}
 
 module _ (rank : ℕ) (origin : Origin) (s : State Origin) (small : Small s) where
@@ -69,7 +70,7 @@ module _ (rank : ℕ) (origin : Origin) (s : State Origin) (small : Small s) whe
         deliveries = small .deliveries;
       }
   performed passes fits = small
-  performed (issues q source destination) fits =
+  performed (issues q remote source destination) fits =
       record { registers = small .registers; cells = small .cells; deliveries = small .deliveries }
   performed meets fits = small
 
@@ -103,7 +104,7 @@ module _ (P : Program) (few : Fits (P .header .ranks)) where
               (each-snoc (small .deliveries (i .rank) (i .queue)) (small .cells (a .source .rank) (a .source .cell))) (small .deliveries);
         }
     stepped s i low small (delivers b rest c) =
-        let (first, others) = each-first (oldest-first _ (c .chosen)) (small .deliveries (i .rank) (i .queue)) in
+        let (first, others) = each-out (oldest-out (taken-oldest c)) (small .deliveries (i .rank) (i .queue)) in
         record {
           registers = small .registers;
           cells = put₂-holds Fits (s .machine .cells) (b .destination .rank) (b .destination .cell) first (small .cells);
