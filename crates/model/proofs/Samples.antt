@@ -173,3 +173,28 @@ farPops rank other = 29 ∷ 7 ∷ rank ∷ 0 ∷ rank ∷ 0 ∷ 0 ∷ 29 ∷ 8 �
 unfoldable pub farRecord : (rank other : ℕ) → List ℕ
 unfolding farCommands farPops
 farRecord rank other = 0 ∷ 4 ∷ (farCommands rank ++ farPops rank other)
+
+-- Document 02, #108. N = 3, two cells each: write cell 0 to cell 0 of rank 2; read cell 0 of rank 3 into cell 0; write cell 1 to cell 1 of rank 2.
+-- So the remote ranks are 2, 3, 2, all on queue 0.
+unfoldable pub neighbours : List ℕ
+unfolding join
+neighbours =
+    join
+    ((3 ∷ 2 ∷ 1 ∷ 1 ∷ 4 ∷ 3 ∷ []) ∷
+    (30 ∷ 6 ∷ 0 ∷ 1 ∷ 0 ∷ 0 ∷ 0 ∷ 0 ∷ 0 ∷ 2 ∷ 0 ∷ 0 ∷ 0 ∷ 0 ∷ 0 ∷ 0 ∷ []) ∷
+    (30 ∷ 5 ∷ 1 ∷ 2 ∷ 0 ∷ 0 ∷ 0 ∷ 0 ∷ 0 ∷ 3 ∷ 0 ∷ 0 ∷ 0 ∷ 0 ∷ 0 ∷ 0 ∷ []) ∷
+    (30 ∷ 6 ∷ 2 ∷ 3 ∷ 0 ∷ 0 ∷ 1 ∷ 0 ∷ 0 ∷ 2 ∷ 0 ∷ 0 ∷ 1 ∷ 0 ∷ 0 ∷ 0 ∷ []) ∷ [])
+
+-- Rank 1's first two commands, and its third.
+unfoldable pub twoAsked : List ℕ
+twoAsked = 3 ∷ 6 ∷ 1 ∷ 0 ∷ 3 ∷ 5 ∷ 1 ∷ 1 ∷ []
+
+unfoldable pub thirdAsked : List ℕ
+thirdAsked = 3 ∷ 6 ∷ 1 ∷ 2 ∷ []
+
+-- A pop of rank 1 that names no remote rank, and one that names a rank.
+unfoldable pub popAny : (kind placeRank cell : ℕ) → List ℕ
+popAny kind placeRank cell = 29 ∷ kind ∷ 1 ∷ 0 ∷ placeRank ∷ 0 ∷ cell ∷ []
+
+unfoldable pub popFor : (kind placeRank cell remote : ℕ) → List ℕ
+popFor kind placeRank cell remote = 93 ∷ kind ∷ 1 ∷ 0 ∷ placeRank ∷ 0 ∷ cell ∷ remote ∷ []

@@ -1,6 +1,6 @@
 -- The starred runs of document 01, a run for each refusal and each of its "Mistakes that look sound", and the forms and refusals that document 02's
--- #107 and #105 brought, as one table in five sections. Expected answers were worked out by hand from the papers. A theorem for each section, and one for the
--- table, says that the definitions give each of them.
+-- #107, #105 and #108 brought, as one table in six sections. Expected answers were worked out by hand from the papers. A theorem for each section,
+-- and one for the table, says that the definitions give each of them.
 use Prim.Native.Nat.{ℕ, _+_, _-_}
 use mathlib.Core.Path.{_≡_, refl, sym, _∙_, ap₂}
 use mathlib.Core.List.{List, [], _∷_, _++_, map, map-append}
@@ -14,7 +14,7 @@ use Rattle.model.specs.Formats.{itemMaps}
 use Rattle.model.specs.Checks.{Outcome, checkIn, check, checkBytesIn, checkBytes}
 use Rattle.model.specs.Slips.{Lent, writeSlipIn, writeSlip, readSlipIn, readSlip}
 use Rattle.model.specs.Listings.{Listing, listingIn, listing, join}
-use Rattle.model.proofs.Samples.{neighbour, noItems, lateDelivery, deliveryFirst, alone, selfCopy, writeItem, popItem, copyThenStore, storeItem, assumeOf, storeTo, storeOf, valueItem, sums, twoTransfers, overtaking, barsThenStore, longStore, longAssume, barAlone, barRecord, farCopy, farCommands, farRecord}
+use Rattle.model.proofs.Samples.{neighbour, noItems, lateDelivery, deliveryFirst, alone, selfCopy, writeItem, popItem, copyThenStore, storeItem, assumeOf, storeTo, storeOf, valueItem, sums, twoTransfers, overtaking, barsThenStore, longStore, longAssume, barAlone, barRecord, farCopy, farCommands, farRecord, neighbours, twoAsked, thirdAsked, popAny, popFor}
 
 -- What is asked: the whole check with what both lists hold, the same on bytes, a listing or a slip with what the memory holds, a slip read with N and
 -- what the counts hold.
@@ -358,6 +358,52 @@ rankRows =
     notFilled (reads 8 (1 ∷ 0 ∷ 0 ∷ 2 ∷ []) (nines 8)) 8 16 1 ∷
     notFilled (reads 9 (1 ∷ 0 ∷ 2 ∷ []) (nines 9)) 9 16 3 ∷ []
 
+-- Document 02, #108: which entry a pop takes, and each refusal at its place.
+pub neighbourRows : List Row
+unfolding join orderRow ringRow refusedRow neighbours twoAsked thirdAsked popAny popFor
+neighbourRows =
+    -- "A pop without the bit takes the oldest of all"; one that names the oldest's rank takes it too
+    orderRow neighbours
+    (0 ∷ 9 ∷
+    join
+    (twoAsked ∷ thirdAsked ∷ popFor 7 1 0 2 ∷ popAny 7 3 0 ∷ popFor 7 1 1 2 ∷ popFor 8 2 0 2 ∷ popFor 8 1 0 3 ∷ popAny 8 2 1 ∷ []))
+    (0 ∷ 1 ∷ 2 ∷ []) (replicate 6 0) ∷
+    -- the read overtakes the write: it is delivered into the cell before the write fetches it, which is a ring
+    ringRow neighbours (0 ∷ 6 ∷ join (twoAsked ∷ popFor 7 3 0 3 ∷ popFor 8 1 0 3 ∷ popAny 7 1 0 ∷ popAny 8 2 0 ∷ [])) 2 (0 ∷ 1 ∷ [])
+    (replicate 6 0) ∷
+    -- "Oldest means first appended to the requests or deliveries it is taken from": the read was fetched first, and is the older delivery
+    orderRow neighbours (0 ∷ 6 ∷ join (twoAsked ∷ popFor 7 3 0 3 ∷ popAny 7 1 0 ∷ popAny 8 1 0 ∷ popAny 8 2 0 ∷ [])) (0 ∷ 1 ∷ [])
+    (replicate 6 0) ∷
+    refusedRow neighbours (0 ∷ 5 ∷ join (twoAsked ∷ popFor 7 3 0 3 ∷ popAny 7 1 0 ∷ popAny 8 2 0 ∷ [])) 11 4 ∷
+    -- "the oldest entry for that rank": of the two for rank 2 the first, of requests and of deliveries
+    refusedRow neighbours (0 ∷ 4 ∷ join (twoAsked ∷ thirdAsked ∷ popFor 7 1 1 2 ∷ [])) 11 3 ∷
+    refusedRow neighbours
+    (0 ∷ 7 ∷ join (twoAsked ∷ thirdAsked ∷ popAny 7 1 0 ∷ popAny 7 3 0 ∷ popAny 7 1 1 ∷ popFor 8 2 1 2 ∷ [])) 11 6 ∷
+    -- "for a read, the rank read from", also of its delivery: the own rank is not it
+    refusedRow neighbours (0 ∷ 3 ∷ join (twoAsked ∷ popFor 7 3 0 1 ∷ [])) 10 2 ∷
+    refusedRow neighbours (0 ∷ 4 ∷ join (twoAsked ∷ popFor 7 3 0 3 ∷ popFor 8 1 0 1 ∷ [])) 10 3 ∷
+    -- "A named rank with none waiting gets 10": it waits elsewhere, or nowhere; 10 comes before 11
+    refusedRow neighbours (0 ∷ 3 ∷ join (twoAsked ∷ popFor 8 2 0 2 ∷ [])) 10 2 ∷
+    refusedRow neighbours (0 ∷ 1 ∷ popFor 7 1 0 2) 10 0 ∷
+    refusedRow neighbours (0 ∷ 3 ∷ join (twoAsked ∷ popFor 7 2 1 1 ∷ [])) 10 2 ∷
+    refusedRow neighbours (0 ∷ 3 ∷ join (twoAsked ∷ popFor 7 2 1 3 ∷ [])) 11 2 ∷
+    -- a transfer to the own rank names it
+    orderRow neighbours
+    (0 ∷ 3 ∷ join ((3 ∷ 6 ∷ 2 ∷ 0 ∷ []) ∷ (93 ∷ 7 ∷ 2 ∷ 0 ∷ 2 ∷ 0 ∷ 0 ∷ 2 ∷ []) ∷ (93 ∷ 8 ∷ 2 ∷ 0 ∷ 2 ∷ 0 ∷ 0 ∷ 2 ∷ []) ∷ [])) (0 ∷ [])
+    (replicate 6 0) ∷
+    -- what is overtaken is left
+    refusedRow neighbours (0 ∷ 4 ∷ join (twoAsked ∷ popFor 7 3 0 3 ∷ popFor 8 1 0 3 ∷ [])) 13 4 ∷
+    -- "one outside 1..N gets 5", at its byte, which is the pop's last; a bad place comes first; a missing byte is 4 at the length
+    refusedRow neighbours (0 ∷ 1 ∷ popFor 7 1 0 0) 5 9 ∷
+    refusedRow neighbours (0 ∷ 1 ∷ popFor 7 1 0 4) 5 9 ∷
+    refusedRow neighbours (0 ∷ 1 ∷ 125 ∷ 7 ∷ 1 ∷ 0 ∷ 1 ∷ 0 ∷ 0 ∷ 0 ∷ 0 ∷ 4 ∷ []) 5 11 ∷
+    refusedRow neighbours (0 ∷ 1 ∷ popFor 8 0 0 4) 5 6 ∷
+    refusedRow neighbours (0 ∷ 1 ∷ 93 ∷ 7 ∷ 1 ∷ 0 ∷ 1 ∷ 0 ∷ 0 ∷ []) 4 9 ∷
+    refusedRow neighbours (0 ∷ 1 ∷ 93 ∷ 7 ∷ 1 ∷ 0 ∷ 1 ∷ 0 ∷ 0 ∷ 3 ∷ 0 ∷ []) 4 10 ∷
+    -- "A pop may carry map bit 6", and no other item
+    refusedRow neighbours (0 ∷ 1 ∷ 67 ∷ 6 ∷ 1 ∷ 0 ∷ 2 ∷ []) 6 2 ∷
+    refusedRow neighbours (0 ∷ 1 ∷ 91 ∷ 1 ∷ 1 ∷ 0 ∷ 1 ∷ 0 ∷ 0 ∷ 2 ∷ []) 6 2 ∷ []
+
 -- The definitions give the answer of each of these rows.
 abbrev pub Answered : List Row → Type 0
 Answered rows = map (λ row. reply (row .question)) rows ≡ map (λ row. row .expected) rows
@@ -383,14 +429,19 @@ pub rank-rows : Answered rankRows
 unfolding reply rankRows
 rank-rows = refl
 
+pub neighbour-rows : Answered neighbourRows
+unfolding reply neighbourRows
+neighbour-rows = refl
+
 -- And the one of the whole table.
 answered-both : (rows more : List Row) → Answered rows → Answered more → Answered (rows ++ more)
 answered-both rows more h g =
     map-append (λ (row : Row). reply (row .question)) rows more ∙ ap₂ _++_ h g ∙ sym (map-append (λ (row : Row). row .expected) rows more)
 
-pub every-row : Answered (readingRows ++ (replayRows ++ (verdictRows ++ (transitionRows ++ rankRows))))
+pub every-row : Answered (readingRows ++ (replayRows ++ (verdictRows ++ (transitionRows ++ (rankRows ++ neighbourRows)))))
 every-row =
-    answered-both readingRows (replayRows ++ (verdictRows ++ (transitionRows ++ rankRows))) reading-rows
-    (answered-both replayRows (verdictRows ++ (transitionRows ++ rankRows)) replay-rows
-    (answered-both verdictRows (transitionRows ++ rankRows) verdict-rows
-    (answered-both transitionRows rankRows transition-rows rank-rows)))
+    answered-both readingRows (replayRows ++ (verdictRows ++ (transitionRows ++ (rankRows ++ neighbourRows)))) reading-rows
+    (answered-both replayRows (verdictRows ++ (transitionRows ++ (rankRows ++ neighbourRows))) replay-rows
+    (answered-both verdictRows (transitionRows ++ (rankRows ++ neighbourRows)) verdict-rows
+    (answered-both transitionRows (rankRows ++ neighbourRows) transition-rows
+    (answered-both rankRows neighbourRows rank-rows neighbour-rows))))
