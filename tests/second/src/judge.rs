@@ -4,7 +4,7 @@ use crate::check::Accepted;
 use crate::machine::{Access, CommandId, Machine, Part, Run, Start, Step};
 use crate::order::Verdict;
 use crate::program::{Kind, Program};
-use crate::record::{Act, Cell, Item};
+use crate::record::{Act, Cell, Item, Pop};
 use crate::replay::replay;
 use std::collections::BTreeMap;
 
@@ -173,7 +173,8 @@ impl<'a> Blocks<'a> {
         if act.kind().is_transfer() {
             let waits = |queue: &usize| !machine.rank(rank).requests[*queue].is_empty();
             let queue = (0..self.program.queues).find(waits)?;
-            for act in [Act::PopA { rank, queue }, Act::PopB { rank, queue }] {
+            let pop = Pop::of_all(rank, queue);
+            for act in [Act::PopA(pop), Act::PopB(pop)] {
                 steps.push(machine.perform(self.program, act).ok()?);
             }
         }
@@ -292,8 +293,7 @@ pub fn judge_found(
         }
         (Verdict::Order(order), Some(found)) => {
             judge_order(accepted, start, order)?;
-            let acts = |items: &[Item]| items.iter().map(|item| item.act).collect::<Vec<Act>>();
-            if acts(&found) != acts(&written_out(accepted, order)) {
+            if unnamed_acts(&found) != unnamed_acts(&written_out(accepted, order)) {
                 return Err(format!(
                     "order {order:?}, but another takes lower groups first"
                 ));
@@ -301,6 +301,12 @@ pub fn judge_found(
             Ok(())
         }
     }
+}
+
+/// The acts of items; in a plain run a pop takes the same entry whether or not it names its remote
+/// rank, and the searches' pops name none.
+fn unnamed_acts(items: &[Item]) -> Vec<Act> {
+    items.iter().map(|item| item.act.unnamed()).collect()
 }
 
 /// Judges a verdict by the exhaustive search.

@@ -1,5 +1,6 @@
-//! Document 01 and document 02's #105 and #107 once more, by another road: a second implementation,
-//! simple and literal, with an exhaustive judge, a generator, a corpus and a harness.
+//! Document 01 and document 02's #105, #107 and #108 once more, by another road: a second
+//! implementation, simple and literal, with an exhaustive judge, a generator, a corpus and a
+//! harness.
 
 #![forbid(unsafe_code)]
 #![warn(missing_docs)]

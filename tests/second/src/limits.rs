@@ -1,4 +1,5 @@
-//! The limits of document 01 and of document 02's #105 and #107, and what a refusal is.
+//! The limits of document 01 and of document 02's #105 and #107, and what a refusal is; #108 moves
+//! no limit.
 
 /// The largest N; ranks run from 1 to N.
 pub const MAX_RANKS: usize = 16;
@@ -33,7 +34,8 @@ pub mod number {
     pub const PROGRAM_FORM: u8 = 3;
     /// The record ends early or has bytes left over.
     pub const RECORD_LENGTH: u8 = 4;
-    /// The item count, or an item's rank, transition, queue or place, is outside its range.
+    /// The item count, or an item's rank, transition, queue, place or remote rank, is outside its
+    /// range.
     pub const RECORD_RANGE: u8 = 5;
     /// An item's unknown kind, or a map not among its kind's.
     pub const RECORD_FORM: u8 = 6;
@@ -43,7 +45,7 @@ pub mod number {
     pub const EVALUATED: u8 = 8;
     /// An assume gives 0.
     pub const ASSUME: u8 = 9;
-    /// A pop of an empty queue.
+    /// A pop of an empty queue, or one that names a remote rank for which no entry waits.
     pub const EMPTY_POP: u8 = 10;
     /// A place or given value differs from the replay.
     pub const DIFFERS: u8 = 11;

@@ -53,6 +53,8 @@ pub struct Step {
 pub struct Request {
     /// The command that issued it.
     pub command: CommandId,
+    /// The remote rank: the one written to, or for a read the one read from.
+    pub remote: usize,
     /// The cell to be read.
     pub source: Cell,
     /// The cell to be written.
@@ -64,6 +66,8 @@ pub struct Request {
 pub struct Delivery {
     /// The command that issued the request.
     pub command: CommandId,
+    /// The request's remote rank.
+    pub remote: usize,
     /// The cell to be written.
     pub destination: Cell,
     /// The fetched value.
@@ -106,9 +110,9 @@ pub struct RankState {
     pub cells: Vec<u16>,
     /// The registers.
     pub registers: Vec<u16>,
-    /// The requests of each queue, the head first.
+    /// The requests of each queue, the first appended first.
     pub requests: Vec<VecDeque<Request>>,
-    /// The deliveries of each queue, the head first.
+    /// The deliveries of each queue, the first appended first.
     pub deliveries: Vec<VecDeque<Delivery>>,
     /// How many command items the rank has taken.
     pub taken: usize,

@@ -22,9 +22,9 @@ pub enum Kind {
     Read,
     /// Kind 6: asks for a copy of an own cell to a remote cell.
     Write,
-    /// Kind 7: fetches for the head request of a queue; items only.
+    /// Kind 7: fetches for a request of a queue; items only.
     PopA,
-    /// Kind 8: delivers the head delivery of a queue; items only.
+    /// Kind 8: writes a delivery of a queue; items only.
     PopB,
     /// Kind 9: a barrier.
     Bar,
@@ -89,6 +89,11 @@ impl Kind {
             Kind::PopA | Kind::PopB => None,
             Kind::Bar => Some(0),
         }
+    }
+
+    /// Whether this is a popa or popb.
+    pub fn is_pop(self) -> bool {
+        matches!(self, Kind::PopA | Kind::PopB)
     }
 
     /// Whether this is a remote read or write.

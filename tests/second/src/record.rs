@@ -25,20 +25,32 @@ pub enum Act {
         /// The transition.
         transition: usize,
     },
-    /// A fetch for the head request of the rank's queue.
-    PopA {
-        /// The rank.
-        rank: usize,
-        /// The queue.
-        queue: usize,
-    },
-    /// A delivery from the head of the rank's queue.
-    PopB {
-        /// The rank.
-        rank: usize,
-        /// The queue.
-        queue: usize,
-    },
+    /// A fetch for a request.
+    PopA(Pop),
+    /// The writing of a delivery.
+    PopB(Pop),
+}
+
+/// Where a pop takes its request or delivery from.
+#[derive(Debug, Clone, Copy, PartialEq, Eq)]
+pub struct Pop {
+    /// The rank.
+    pub rank: usize,
+    /// The rank's queue.
+    pub queue: usize,
+    /// The remote rank whose oldest entry is taken; if none is named, the oldest of all.
+    pub remote: Option<usize>,
+}
+
+impl Pop {
+    /// A pop of the oldest of all entries.
+    pub fn of_all(rank: usize, queue: usize) -> Pop {
+        Pop {
+            rank,
+            queue,
+            remote: None,
+        }
+    }
 }
 
 /// One item of a record.
@@ -60,6 +72,8 @@ const QUEUE_BIT: u8 = 1 << 2;
 const PLACE_BIT: u8 = 1 << 3;
 /// Map bit 5: the value.
 const VALUE_BIT: u8 = 1 << 5;
+/// Map bit 6: the remote rank, the last field of a pop; it stands only with pops.
+pub const REMOTE_BIT: u8 = 1 << 6;
 /// Map bit 7: the transition's high byte, after all other fields; it stands only with bit 1.
 pub const HIGH_BIT: u8 = 1 << 7;
 
@@ -68,25 +82,49 @@ impl Act {
     pub fn kind(&self) -> Kind {
         match self {
             Act::Command { kind, .. } => *kind,
-            Act::PopA { .. } => Kind::PopA,
-            Act::PopB { .. } => Kind::PopB,
+            Act::PopA(_) => Kind::PopA,
+            Act::PopB(_) => Kind::PopB,
         }
     }
 
     /// The rank of the item.
     pub fn rank(&self) -> usize {
         match self {
-            Act::Command { rank, .. } | Act::PopA { rank, .. } | Act::PopB { rank, .. } => *rank,
+            Act::Command { rank, .. } => *rank,
+            Act::PopA(pop) | Act::PopB(pop) => pop.rank,
         }
     }
 
     /// Gives the item another rank.
     pub fn set_rank(&mut self, other: usize) {
         match self {
-            Act::Command { rank, .. } | Act::PopA { rank, .. } | Act::PopB { rank, .. } => {
-                *rank = other;
-            }
+            Act::Command { rank, .. } => *rank = other,
+            Act::PopA(pop) | Act::PopB(pop) => pop.rank = other,
         }
+    }
+
+    /// Where a pop takes its entry from.
+    pub fn pop(&self) -> Option<&Pop> {
+        match self {
+            Act::Command { .. } => None,
+            Act::PopA(pop) | Act::PopB(pop) => Some(pop),
+        }
+    }
+
+    /// Where a pop takes its entry from, to be changed.
+    pub fn pop_mut(&mut self) -> Option<&mut Pop> {
+        match self {
+            Act::Command { .. } => None,
+            Act::PopA(pop) | Act::PopB(pop) => Some(pop),
+        }
+    }
+
+    /// The act without the remote rank that a pop may name.
+    pub fn unnamed(mut self) -> Act {
+        if let Some(pop) = self.pop_mut() {
+            pop.remote = None;
+        }
+        self
     }
 
     /// The transition of a command item.
@@ -111,20 +149,23 @@ impl Item {
         let map = if self.value.is_some() { valued } else { plain };
         let high = self.act.high_byte();
         let high_bit = if high.is_some() { HIGH_BIT } else { 0 };
+        let remote = self.act.pop().and_then(|pop| pop.remote);
+        let remote_bit = if remote.is_some() { REMOTE_BIT } else { 0 };
         out.extend([
-            map | high_bit,
+            map | remote_bit | high_bit,
             self.act.kind().byte(),
             self.act.rank() as u8,
         ]);
         match self.act {
             Act::Command { transition, .. } => out.push(low_byte(transition)),
-            Act::PopA { queue, .. } | Act::PopB { queue, .. } => out.push(queue as u8),
+            Act::PopA(pop) | Act::PopB(pop) => out.push(pop.queue as u8),
         }
         if let Some(place) = self.place {
             out.push(place.rank as u8);
             out.extend((place.cell as u16).to_be_bytes());
         }
         out.extend(self.value.iter().flat_map(|value| value.to_be_bytes()));
+        out.extend(remote.map(|remote| remote as u8));
         out.extend(high);
     }
 }
@@ -134,16 +175,18 @@ fn low_byte(transition: usize) -> u8 {
     (transition % 256) as u8
 }
 
-/// Whether the map is among the kind's: one of the two below, and bit 7 or not where bit 1 stands.
-/// The table in `forms` says the same in a text of its own and is not made from this one.
+/// Whether the map is among the kind's: one of the two below, with bit 6 or not if it is a pop's,
+/// and with bit 7 or not where bit 1 stands. The table in `forms` says the same in a text of its
+/// own and is not made from this one.
 fn is_map_of(kind: Kind, map: u8) -> bool {
-    let others = map & !HIGH_BIT;
-    let may_be_high = others & TRANSITION_BIT != 0;
-    maps(kind).contains(&others) && (map == others || may_be_high)
+    let others = map & !(REMOTE_BIT | HIGH_BIT);
+    let remote_fits = map & REMOTE_BIT == 0 || kind.is_pop();
+    let high_fits = map & HIGH_BIT == 0 || map & TRANSITION_BIT != 0;
+    maps(kind).contains(&others) && remote_fits && high_fits
 }
 
-/// The two maps of a kind with bit 7 left out: without a value and with one; the same where no
-/// value can be given.
+/// The two maps of a kind with bits 6 and 7 left out: without a value and with one; the same where
+/// no value can be given.
 pub fn maps(kind: Kind) -> [u8; 2] {
     match kind {
         Kind::Load | Kind::Store => [27, 59],
@@ -196,6 +239,9 @@ fn read_item(reader: &mut ByteReader, program: &Program) -> Outcome<Item> {
     if map & VALUE_BIT != 0 {
         value = Some(reader.word()?);
     }
+    if let (true, Some(pop)) = (map & REMOTE_BIT != 0, act.pop_mut()) {
+        pop.remote = Some(reader.byte_within(1..=program.ranks, number::RECORD_RANGE)?);
+    }
     if let (true, Act::Command { transition, .. }) = (map & HIGH_BIT != 0, &mut act) {
         *transition = read_high_byte(reader, program, *transition)?;
     }
@@ -211,8 +257,8 @@ fn read_high_byte(reader: &mut ByteReader, program: &Program, low: usize) -> Out
     within(256 * high + low, transitions, number::RECORD_RANGE, place)
 }
 
-/// Reads the transition of a command item or the queue of a pop. With bit 7 it is the transition's
-/// low byte, which is not judged alone.
+/// Reads the transition of a command item or the queue of a pop, whose remote rank, if it names
+/// one, comes later. With bit 7 it is the transition's low byte, which is not judged alone.
 fn read_act(
     reader: &mut ByteReader,
     program: &Program,
@@ -234,9 +280,10 @@ fn read_act(
         });
     }
     let queue = reader.byte_within(below(program.queues), number::RECORD_RANGE)?;
+    let pop = Pop::of_all(rank, queue);
     if kind == Kind::PopA {
-        Ok(Act::PopA { rank, queue })
+        Ok(Act::PopA(pop))
     } else {
-        Ok(Act::PopB { rank, queue })
+        Ok(Act::PopB(pop))
     }
 }

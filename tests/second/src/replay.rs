@@ -4,7 +4,8 @@ use crate::expression::{Environment, Expression};
 use crate::limits::{number, refuse, Outcome};
 use crate::machine::{Access, CommandId, Delivery, Machine, Part, Request, Run, Start, Step};
 use crate::program::{Kind, Program, Transition};
-use crate::record::{Act, Cell, Item};
+use crate::record::{Act, Cell, Item, Pop};
+use std::collections::VecDeque;
 
 impl Machine {
     /// Does one act, or gives the number it is refused with and changes nothing.
@@ -22,8 +23,8 @@ impl Machine {
                 }
                 self.command(program, act, transition)
             }
-            Act::PopA { rank, queue } => self.popa(act, rank, queue),
-            Act::PopB { rank, queue } => self.popb(act, rank, queue),
+            Act::PopA(pop) => self.popa(act, pop),
+            Act::PopB(pop) => self.popb(act, pop),
         }
     }
 
@@ -171,6 +172,7 @@ impl Machine {
         };
         let request = Request {
             command,
+            remote: remote.rank,
             source,
             destination,
         };
@@ -178,23 +180,26 @@ impl Machine {
         Ok(())
     }
 
-    /// Takes the head request, reads its source cell now, and appends the delivery.
-    fn popa(&mut self, act: Act, rank: usize, queue: usize) -> Result<Step, u8> {
-        let Some(request) = self.rank_mut(rank).requests[queue].pop_front() else {
+    /// Takes a request, reads its source cell now, and appends the delivery.
+    fn popa(&mut self, act: Act, pop: Pop) -> Result<Step, u8> {
+        let requests = &mut self.rank_mut(pop.rank).requests[pop.queue];
+        let Some(request) = take_oldest(requests, |request| request.remote, pop.remote) else {
             return Err(number::EMPTY_POP);
         };
         let Request {
             command,
+            remote,
             source,
             destination,
         } = request;
         let value = self.read_cell(source);
         let delivery = Delivery {
             command,
+            remote,
             destination,
             value,
         };
-        self.rank_mut(rank).deliveries[queue].push_back(delivery);
+        self.rank_mut(pop.rank).deliveries[pop.queue].push_back(delivery);
         let access = Access {
             part: Part::Fetch,
             cell: source,
@@ -208,15 +213,17 @@ impl Machine {
         })
     }
 
-    /// Takes the head delivery and writes it.
-    fn popb(&mut self, act: Act, rank: usize, queue: usize) -> Result<Step, u8> {
-        let Some(delivery) = self.rank_mut(rank).deliveries[queue].pop_front() else {
+    /// Takes a delivery and writes it.
+    fn popb(&mut self, act: Act, pop: Pop) -> Result<Step, u8> {
+        let deliveries = &mut self.rank_mut(pop.rank).deliveries[pop.queue];
+        let Some(delivery) = take_oldest(deliveries, |delivery| delivery.remote, pop.remote) else {
             return Err(number::EMPTY_POP);
         };
         let Delivery {
             command,
             destination,
             value,
+            ..
         } = delivery;
         self.write_cell(destination, value);
         let access = Access {
@@ -231,6 +238,18 @@ impl Machine {
             access: Some(access),
         })
     }
+}
+
+/// Takes the oldest entry for the named remote rank, or the oldest of all if none is named. The
+/// oldest is the one that was appended first to these entries.
+fn take_oldest<Entry>(
+    entries: &mut VecDeque<Entry>,
+    remote_of: fn(&Entry) -> usize,
+    named: Option<usize>,
+) -> Option<Entry> {
+    let fits = |entry: &Entry| named.is_none_or(|named| remote_of(entry) == named);
+    let oldest = entries.iter().position(fits)?;
+    entries.remove(oldest)
 }
 
 /// An evaluated cell, rank or queue: `count` numbers from `first` on are in its range.

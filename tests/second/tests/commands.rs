@@ -169,7 +169,7 @@ fn the_subject_is_held_to_a_written_table() {
         let text = String::from_utf8_lossy(&output.stdout);
         assert_eq!(output.status.code(), Some(0), "{text}");
         assert!(text.starts_with("forms: all pairs agree ("), "{text}");
-        let counts = "good 22  unknown-kind 63232  wrong-map 2282\n";
+        let counts = "good 26  unknown-kind 63232  wrong-map 2278\n";
         assert_eq!(text.matches(counts).count(), 3, "{text}");
     }
 }

@@ -10,7 +10,8 @@ use second::harness::between_guards;
 
 /// The verdict by the fields that an item names. Every item is some rank's; a command item takes a
 /// transition, and a pop names a queue; loads, stores and pops read or write a cell, so they name a
-/// place, and may give the value. Bit 6 is no field's. A transition's number may have a high byte.
+/// place, and may give the value. A pop may name a remote rank. A transition's number may have a
+/// high byte.
 fn form_by_fields(Pair { map, kind }: Pair) -> Form {
     let pop = matches!(kind, 7 | 8);
     let access = pop || matches!(kind, 1 | 2);
@@ -22,8 +23,8 @@ fn form_by_fields(Pair { map, kind }: Pair) -> Form {
             2 => named == pop,
             3 | 4 => named == access,
             5 => access || !named,
-            7 => !pop || !named,
-            _ => !named,
+            6 => pop || !named,
+            _ => !pop || !named,
         }
     };
     match kind {
@@ -48,7 +49,7 @@ fn the_second_program_is_held_to_the_table() {
         extras: &Extras::second(),
     };
     let shown = hold(&Table::of_the_papers(), &readers).unwrap_or_else(|fault| panic!("{fault}"));
-    let verdicts = "good 22  unknown-kind 63232  wrong-map 2282\n";
+    let verdicts = "good 26  unknown-kind 63232  wrong-map 2278\n";
     let functions = ["check      ", "listing    ", "slip writer"];
     let lines: String = functions.map(|name| format!("{name}  {verdicts}")).concat();
     assert_eq!(shown.to_string(), lines);

@@ -12,7 +12,7 @@ use second::limits::Refusal;
 use second::machine::{CommandId, Machine, Run, Start, Step};
 use second::order::{decide, Verdict};
 use second::program::{Kind, Program};
-use second::record::{read_record, Act, Item};
+use second::record::{read_record, Act, Item, Pop};
 use std::cell::RefCell;
 use std::collections::BTreeMap;
 
@@ -185,8 +185,8 @@ fn queue_order_drawn_as_an_arrow() {
         let mut all = arrows(steps, group_of);
         let mut latest = BTreeMap::new();
         for (item, step) in steps.iter().enumerate() {
-            if let Act::PopB { rank, queue } = step.act {
-                if let Some(before) = latest.insert((rank, queue), item) {
+            if let Act::PopB(pop) = step.act {
+                if let Some(before) = latest.insert((pop.rank, pop.queue), item) {
                     all.extend(arrows_of(&Pairs::from([(before, item)]), group_of));
                 }
             }
@@ -211,9 +211,9 @@ fn fetching_at_issue() {
                     .insert(step.command, machine.read_cell(request.source));
             }
         }
-        if let (Act::PopA { rank, queue }, Some(access)) = (item.act, &mut step.access) {
+        if let (Act::PopA(pop), Some(access)) = (item.act, &mut step.access) {
             access.value = fetched.borrow()[&step.command];
-            let latest = machine.rank_mut(rank).deliveries[queue].back_mut();
+            let latest = machine.rank_mut(pop.rank).deliveries[pop.queue].back_mut();
             latest
                 .into_iter()
                 .for_each(|delivery| delivery.value = access.value);
@@ -236,8 +236,8 @@ fn compared(item: &Item, step: Step) -> Result<Step, u8> {
 fn delivery_at_the_fetch() {
     assert_steps_misjudged(&|program, machine, item| {
         let step = machine.step(program, item)?;
-        if let Act::PopA { rank, queue } = item.act {
-            let latest = machine.rank(rank).deliveries[queue].back().copied();
+        if let Act::PopA(pop) = item.act {
+            let latest = machine.rank(pop.rank).deliveries[pop.queue].back().copied();
             if let Some(delivery) = latest {
                 machine.write_cell(delivery.destination, delivery.value);
             }
@@ -253,8 +253,9 @@ fn a_barrier_that_empties_queues() {
         if item.act.kind() == Kind::Bar && machine.open_row.is_none() {
             for rank in 1..=program.ranks {
                 for queue in 0..program.queues {
-                    while machine.perform(program, Act::PopA { rank, queue }).is_ok() {}
-                    while machine.perform(program, Act::PopB { rank, queue }).is_ok() {}
+                    let pop = Pop::of_all(rank, queue);
+                    while machine.perform(program, Act::PopA(pop)).is_ok() {}
+                    while machine.perform(program, Act::PopB(pop)).is_ok() {}
                 }
             }
         }

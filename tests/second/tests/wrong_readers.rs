@@ -1,5 +1,6 @@
-//! The harness must catch a subject that reads the fields of #105 and #107 in a wrong way: N and
-//! ranks; the count, map bit 7, and the transition's high byte.
+//! The harness must catch a subject that reads the fields of #105, #107 and #108 in a wrong way: N
+//! and ranks; the count, map bit 7, and the transition's high byte; map bit 6 and a pop's remote
+//! rank.
 
 mod common;
 
@@ -10,13 +11,13 @@ use second::harness::Subject;
 use second::limits::{refuse, Outcome, LONG_COUNT};
 use second::machine::Start;
 use second::program::{read_transition, Kind, Program, Transition};
-use second::record::{maps, Act, Cell, Item, HIGH_BIT};
+use second::record::{maps, Act, Cell, Item, Pop, HIGH_BIT, REMOTE_BIT};
 use std::ops::RangeInclusive;
 
-/// The field after which the high byte is read.
+/// The field after which the high byte or the remote rank is read.
 #[derive(Clone, Copy, PartialEq, Eq)]
 enum After {
-    /// The low byte.
+    /// The low byte, or the queue.
     Low,
     /// The place.
     Place,
@@ -29,11 +30,11 @@ enum After {
 enum Placed {
     /// The field's first byte.
     There,
-    /// The byte that the field belongs to: the count byte, or the low byte.
+    /// The byte that the field belongs to: the count byte, the low byte, or the queue.
     Before,
 }
 
-/// How the fields of #105 and #107 are read.
+/// How the fields of #105, #107 and #108 are read.
 struct Rules {
     /// The largest N.
     most_ranks: usize,
@@ -67,9 +68,19 @@ struct Rules {
     number: fn(usize, usize) -> usize,
     /// The transition that the replay takes for this number.
     replayed: fn(usize) -> usize,
+    /// Whether an item of this kind may have bit 6.
+    may_name: fn(Kind) -> bool,
+    /// The remote ranks that a pop may name in a program of N ranks.
+    remotes: fn(usize) -> RangeInclusive<usize>,
+    /// Where the remote rank is read.
+    remote_after: After,
+    /// Where a fault of the remote rank is placed.
+    remote: Placed,
+    /// The remote rank that the replay takes for this one.
+    replayed_remote: fn(usize) -> Option<usize>,
 }
 
-/// The rules of #105 and #107.
+/// The rules of #105, #107 and #108.
 const RIGHT: Rules = Rules {
     most_ranks: 16,
     most_rank: |ranks| ranks,
@@ -87,6 +98,11 @@ const RIGHT: Rules = Rules {
     high: Placed::There,
     number: |low, high| 256 * high + low,
     replayed: |number| number,
+    may_name: Kind::is_pop,
+    remotes: |ranks| 1..=ranks,
+    remote_after: After::Value,
+    remote: Placed::There,
+    replayed_remote: Some,
 };
 
 impl Rules {
@@ -159,10 +175,11 @@ impl Rules {
 
     /// Whether the kind may have this map.
     fn takes(&self, kind: Kind, map: u8, program: &Program) -> bool {
-        let pop = matches!(kind, Kind::PopA | Kind::PopB);
         let enough = program.transitions.len() >= self.high_bit_from;
-        let may_be_high = enough && (!pop || self.high_bit_of_pops);
-        maps(kind).contains(&(map & !HIGH_BIT)) && (map & HIGH_BIT == 0 || may_be_high)
+        let may_be_high = enough && (!kind.is_pop() || self.high_bit_of_pops);
+        maps(kind).contains(&(map & !HIGH_BIT & !REMOTE_BIT))
+            && (map & HIGH_BIT == 0 || may_be_high)
+            && (map & REMOTE_BIT == 0 || (self.may_name)(kind))
     }
 
     /// Reads the fields after map and kind.
@@ -175,39 +192,47 @@ impl Rules {
     ) -> Outcome<Item> {
         let rank = reader.byte_within(1..=(self.most_rank)(program.ranks), 5)?;
         let rank = (self.replayed_rank)(rank).min(program.ranks);
-        let pop = matches!(kind, Kind::PopA | Kind::PopB);
         let low_place = reader.place();
         let low = reader.byte()?.into();
-        let others = match (pop, map & HIGH_BIT) {
+        let others = match (kind.is_pop(), map & HIGH_BIT) {
             (true, _) => below(program.queues),
             (false, 0) => below(program.transitions.len()),
             (false, _) if self.low_alone => below(program.transitions.len()),
             (false, _) => 0..=255,
         };
         let mut number = within(low, others, 5, low_place)?;
-        let mut read_high = |reader: &mut ByteReader, after| {
+        let mut remote = None;
+        let mut read_late = |reader: &mut ByteReader, after| {
+            if map & REMOTE_BIT != 0 && self.remote_after == after {
+                remote = self.read_remote(reader, program, low_place)?;
+            }
             if map & HIGH_BIT != 0 && self.high_after == after {
                 number = self.read_high(reader, program, low, low_place)?;
             }
             Ok(())
         };
-        read_high(reader, After::Low)?;
+        read_late(reader, After::Low)?;
         let mut place = None;
         if map & 8 != 0 {
             let rank = reader.byte_within(1..=(self.most_owner)(program.ranks), 5)?;
             let cell = reader.word_within(below(program.cells), 5)?;
             place = Some(Cell { rank, cell });
         }
-        read_high(reader, After::Place)?;
+        read_late(reader, After::Place)?;
         let mut value = None;
         if map & 32 != 0 {
             value = Some(reader.word()?);
         }
-        read_high(reader, After::Value)?;
+        read_late(reader, After::Value)?;
         let last = program.transitions.len().max(1) - 1;
+        let pop = Pop {
+            rank,
+            queue: low,
+            remote,
+        };
         let act = match kind {
-            Kind::PopA => Act::PopA { rank, queue: low },
-            Kind::PopB => Act::PopB { rank, queue: low },
+            Kind::PopA => Act::PopA(pop),
+            Kind::PopB => Act::PopB(pop),
             _ => Act::Command {
                 kind,
                 rank,
@@ -215,6 +240,22 @@ impl Rules {
             },
         };
         Ok(Item { act, place, value })
+    }
+
+    /// Reads the remote rank and gives the one that the replay takes.
+    fn read_remote(
+        &self,
+        reader: &mut ByteReader,
+        program: &Program,
+        queue_place: usize,
+    ) -> Outcome<Option<usize>> {
+        let place = match self.remote {
+            Placed::There => reader.place(),
+            Placed::Before => queue_place,
+        };
+        let remotes = (self.remotes)(program.ranks);
+        let remote = within(reader.byte()?.into(), remotes, 5, place)?;
+        Ok((self.replayed_remote)(remote))
     }
 
     /// Reads the high byte and gives the number.

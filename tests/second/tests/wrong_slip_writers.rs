@@ -81,7 +81,7 @@ fn items_of(accepted: &Accepted, passes: impl Fn(&Kind) -> bool) -> Vec<usize> {
 
 /// The right counts: command items, the pops left out.
 fn counts_of(accepted: &Accepted) -> Vec<usize> {
-    items_of(accepted, |kind| !matches!(kind, Kind::PopA | Kind::PopB))
+    items_of(accepted, |kind| !kind.is_pop())
 }
 
 #[test]
@@ -181,7 +181,7 @@ fn pops_counted() {
 #[test]
 fn barriers_not_counted() {
     assert_slips_caught(&|accepted| {
-        let counted = |kind: &Kind| !matches!(kind, Kind::PopA | Kind::PopB | Kind::Bar);
+        let counted = |kind: &Kind| !kind.is_pop() && *kind != Kind::Bar;
         slip_with(&items_of(accepted, counted), |index| index)
     });
 }

@@ -78,7 +78,7 @@ pub fn judged_cases(source: &Source) -> Result<Vec<Case>, String> {
     let mut wanted: BTreeMap<(Class, Kind), usize> = BTreeMap::new();
     for class in [Class::Ring, Class::Own, Class::Other] {
         for kind in crate::program::KINDS {
-            if !matches!(kind, Kind::PopA | Kind::PopB) {
+            if !kind.is_pop() {
                 wanted.insert((class, kind), source.per_kind);
             }
         }

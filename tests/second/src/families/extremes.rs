@@ -3,7 +3,7 @@
 use super::base::{join, record_of};
 use crate::machine::{Machine, Start};
 use crate::program::{Kind, Program};
-use crate::record::{record_bytes, Act, Item};
+use crate::record::{record_bytes, Act, Item, Pop};
 
 /// An extreme input: its name, program and record.
 pub struct Extreme {
@@ -135,10 +135,7 @@ fn long_ring() -> Extreme {
     let mut acts = vec![command(Kind::Write, 1, 0)];
     acts.extend([command(Kind::Assign, 1, 1); 1020]);
     acts.push(command(Kind::Store, 1, 2));
-    acts.extend([
-        Act::PopA { rank: 1, queue: 0 },
-        Act::PopB { rank: 1, queue: 0 },
-    ]);
+    acts.extend([Act::PopA(Pop::of_all(1, 0)), Act::PopB(Pop::of_all(1, 0))]);
     extreme("long-ring", code, &acts)
 }
 
@@ -153,8 +150,8 @@ fn long_ring_of_ranks() -> Extreme {
         acts.push(command(Kind::Write, rank, rank % 8));
         acts.push(command(Kind::Load, rank, 9));
     }
-    acts.extend((1..=8).map(|rank| Act::PopA { rank, queue: 0 }));
-    acts.extend((1..=8).map(|rank| Act::PopB { rank, queue: 0 }));
+    acts.extend((1..=8).map(|rank| Act::PopA(Pop::of_all(rank, 0))));
+    acts.extend((1..=8).map(|rank| Act::PopB(Pop::of_all(rank, 0))));
     extreme("ring-of-8-ranks", code, &acts)
 }
 
@@ -183,8 +180,8 @@ fn one_cell_for_all() -> Extreme {
         }
         for rank in (1..=8).rev() {
             let queue = (turn + rank) % 4;
-            acts.extend([Act::PopA { rank, queue }; 2]);
-            acts.extend([Act::PopB { rank, queue }; 2]);
+            acts.extend([Act::PopA(Pop::of_all(rank, queue)); 2]);
+            acts.extend([Act::PopB(Pop::of_all(rank, queue)); 2]);
         }
     }
     extreme("one-cell-for-all", code, &acts)
@@ -195,8 +192,8 @@ fn all_delayed() -> Extreme {
     let code = program([1, 2, 1, 1, 1], &[transfer(6, 0, 1, 1, 0), assign()]);
     let mut acts = vec![command(Kind::Assign, 1, 1)];
     acts.extend([command(Kind::Write, 1, 0); 341]);
-    acts.extend([Act::PopA { rank: 1, queue: 0 }; 341]);
-    acts.extend([Act::PopB { rank: 1, queue: 0 }; 341]);
+    acts.extend([Act::PopA(Pop::of_all(1, 0)); 341]);
+    acts.extend([Act::PopB(Pop::of_all(1, 0)); 341]);
     extreme("all-delayed", code, &acts)
 }
 
@@ -222,8 +219,8 @@ fn back_and_forth() -> Extreme {
     let mut acts = vec![command(Kind::Store, 1, 2), command(Kind::Store, 2, 2)];
     for _ in 0..100 {
         acts.extend([command(Kind::Write, 1, 0), command(Kind::Write, 2, 1)]);
-        acts.extend([1, 2].map(|rank| Act::PopA { rank, queue: 0 }));
-        acts.extend([1, 2].map(|rank| Act::PopB { rank, queue: 0 }));
+        acts.extend([1, 2].map(|rank| Act::PopA(Pop::of_all(rank, 0))));
+        acts.extend([1, 2].map(|rank| Act::PopB(Pop::of_all(rank, 0))));
     }
     extreme("back-and-forth", code, &acts)
 }
@@ -255,10 +252,7 @@ fn largest_expressions() -> Extreme {
     };
     let fields = [deep(0), deep(1), deep(1), deep(0)].concat();
     let code = program([1, 2, 1, 1, 1], &[join(&[30, 6, 0, 0], &fields)]);
-    let pops = [
-        Act::PopA { rank: 1, queue: 0 },
-        Act::PopB { rank: 1, queue: 0 },
-    ];
+    let pops = [Act::PopA(Pop::of_all(1, 0)), Act::PopB(Pop::of_all(1, 0))];
     let acts = [vec![command(Kind::Write, 1, 0)], pops.to_vec()].concat();
     extreme("tokens-15", code, &acts)
 }

@@ -2,7 +2,7 @@
 
 use crate::expression::Expression;
 use crate::program::{Kind, Transition};
-use crate::record::{Act, Cell, Item};
+use crate::record::{Act, Cell, Item, Pop};
 
 /// A transition from state 0 to 0.
 fn staying(kind: Kind, register: Option<usize>, operands: &[u16]) -> Transition {
@@ -88,12 +88,12 @@ pub fn giving(item: Item, value: u16) -> Item {
 
 /// A popa of a rank at a place.
 pub fn popa(rank: usize, place: (usize, usize)) -> Item {
-    popping(Act::PopA { rank, queue: 0 }, place)
+    popping(Act::PopA(Pop::of_all(rank, 0)), place)
 }
 
 /// A popb of a rank at a place.
 pub fn popb(rank: usize, place: (usize, usize)) -> Item {
-    popping(Act::PopB { rank, queue: 0 }, place)
+    popping(Act::PopB(Pop::of_all(rank, 0)), place)
 }
 
 /// A pop at a place.

@@ -40,8 +40,9 @@ fn program(long: bool) -> Vec<u8> {
 }
 
 /// The map bit that each byte of an item's fields belongs to: rank, transition, queue, place rank,
-/// place cell and value, these two of two bytes, and the transition's high byte.
-const BITS: [u8; 9] = [0, 1, 2, 3, 4, 4, 5, 5, 7];
+/// place cell and value, these two of two bytes, a pop's remote rank, and the transition's high
+/// byte.
+const BITS: [u8; 10] = [0, 1, 2, 3, 4, 4, 5, 5, 6, 7];
 /// The map bit of the transition's high byte.
 const HIGH_BIT: u8 = 7;
 /// The bytes of all fields but the high byte, with the transition's number in the short program.
@@ -71,10 +72,10 @@ impl Planned {
         let [rank, transition, rest @ ..] = self.fields;
         let first = if stands(map, HIGH_BIT) { AGAIN } else { 0 };
         let [high, low] = (first + u16::from(transition)).to_be_bytes();
-        let [queue, place @ .., high_value, low_value] = rest;
+        let [queue, place @ .., high_value, low_value, remote] = rest;
         let [owner, high_cell, low_cell] = place;
         [
-            rank, low, queue, owner, high_cell, low_cell, high_value, low_value, high,
+            rank, low, queue, owner, high_cell, low_cell, high_value, low_value, remote, high,
         ]
     }
 }
@@ -93,19 +94,19 @@ const fn planned(map: u8, kind: u8, fields: Fields) -> Planned {
 /// An accepted run with each kind of item, each of them at least once behind the first item.
 #[rustfmt::skip]
 const RUN: [Planned; 13] = [
-    planned(3, 3, [1, 2, 0, 1, 0, 0, 0, 0]),  // 0: assign of rank 1
-    planned(27, 2, [2, 0, 0, 2, 0, 1, 1, 2]), // 1: store of rank 2 at its cell 1
-    planned(27, 1, [2, 1, 0, 2, 0, 1, 1, 2]), // 2: load of rank 2 at its cell 1
-    planned(3, 3, [2, 2, 0, 2, 0, 1, 1, 2]),  // 3: assign of rank 2
-    planned(3, 4, [2, 3, 0, 2, 0, 1, 1, 2]),  // 4: assume of rank 2
-    planned(3, 5, [1, 4, 1, 2, 0, 1, 1, 2]),  // 5: read of rank 1
-    planned(29, 7, [1, 4, 1, 2, 0, 1, 1, 2]), // 6: popa of rank 1, queue 1, at cell 1 of rank 2
-    planned(29, 8, [1, 4, 1, 1, 0, 2, 1, 2]), // 7: popb of rank 1, queue 1, at its cell 2
-    planned(3, 6, [2, 5, 0, 2, 0, 1, 1, 2]),  // 8: write of rank 2
-    planned(29, 7, [2, 5, 0, 2, 0, 1, 1, 2]), // 9: popa of rank 2, queue 0, at its cell 1
-    planned(29, 8, [2, 5, 0, 1, 0, 0, 1, 2]), // 10: popb of rank 2, queue 0, at cell 0 of rank 1
-    planned(3, 9, [1, 6, 0, 1, 0, 0, 0, 0]),  // 11: bar of rank 1
-    planned(3, 9, [2, 6, 0, 2, 0, 0, 0, 0]),  // 12: bar of rank 2
+    planned(3, 3, [1, 2, 0, 1, 0, 0, 0, 0, 1]),  // 0: assign of rank 1
+    planned(27, 2, [2, 0, 0, 2, 0, 1, 1, 2, 1]), // 1: store of rank 2 at its cell 1
+    planned(27, 1, [2, 1, 0, 2, 0, 1, 1, 2, 1]), // 2: load of rank 2 at its cell 1
+    planned(3, 3, [2, 2, 0, 2, 0, 1, 1, 2, 1]),  // 3: assign of rank 2
+    planned(3, 4, [2, 3, 0, 2, 0, 1, 1, 2, 1]),  // 4: assume of rank 2
+    planned(3, 5, [1, 4, 1, 2, 0, 1, 1, 2, 2]),  // 5: read of rank 1 from rank 2
+    planned(29, 7, [1, 4, 1, 2, 0, 1, 1, 2, 2]), // 6: popa of rank 1, queue 1, at cell 1 of rank 2
+    planned(29, 8, [1, 4, 1, 1, 0, 2, 1, 2, 2]), // 7: popb of rank 1, queue 1, at its cell 2
+    planned(3, 6, [2, 5, 0, 2, 0, 1, 1, 2, 1]),  // 8: write of rank 2 to rank 1
+    planned(29, 7, [2, 5, 0, 2, 0, 1, 1, 2, 1]), // 9: popa of rank 2, queue 0, at its cell 1
+    planned(29, 8, [2, 5, 0, 1, 0, 0, 1, 2, 1]), // 10: popb of rank 2, queue 0, at cell 0 of rank 1
+    planned(3, 9, [1, 6, 0, 1, 0, 0, 0, 0, 1]),  // 11: bar of rank 1
+    planned(3, 9, [2, 6, 0, 2, 0, 0, 0, 0, 1]),  // 12: bar of rank 2
 ];
 
 /// The run's order: its groups as they are numbered.

@@ -1,5 +1,5 @@
 //! The verdict on each map byte and kind byte of an item, written from document 01 and document
-//! 02's #107 alone. `record` has no part in it: this is a second text, and every reader is held to
+//! 02's #107 and #108 alone. `record` has no part in it: this is a second text, and every reader is held to
 //! it, that one too.
 
 pub mod hold;
@@ -51,7 +51,8 @@ impl Pair {
     /// The verdict on the pair. Document 01: "Maps: load and store 27, or 59 with a value; assign,
     /// assume, read, write and bar 3; popa (kind 7) and popb (kind 8) 29, or 61 with a value."
     /// Document 02, #107: "In items a new map bit 7 brings the transition's high byte after all
-    /// other fields. That byte is never 0 and bit 7 stands only with bit 1."
+    /// other fields. That byte is never 0 and bit 7 stands only with bit 1." #108: "A pop may carry
+    /// map bit 6 and, as its last field, the remote rank (one byte)".
     pub fn form(self) -> Form {
         let maps: &[u8] = match self.kind {
             1 => &[27, 59, 155, 187], // load
@@ -60,8 +61,8 @@ impl Pair {
             4 => &[3, 131],           // assume
             5 => &[3, 131],           // read
             6 => &[3, 131],           // write
-            7 => &[29, 61],           // popa
-            8 => &[29, 61],           // popb
+            7 => &[29, 61, 93, 125],  // popa
+            8 => &[29, 61, 93, 125],  // popb
             9 => &[3, 131],           // bar
             _ => return Form::UnknownKind,
         };

@@ -5,7 +5,7 @@ use super::Input;
 use crate::limits::MAX_ITEMS;
 use crate::machine::{Machine, Start};
 use crate::program::{Kind, Program};
-use crate::record::{maps, record_bytes, Act, Cell, Item};
+use crate::record::{maps, record_bytes, Act, Cell, Item, Pop};
 use std::collections::BTreeMap;
 
 /// Damages an input made of this program and these items, in one random way.
@@ -190,13 +190,16 @@ pub fn changed(rng: &mut Rng, program: &Program, mut item: Item) -> Item {
     item
 }
 
-/// Changes the rank, the transition or the queue of an act.
+/// Changes the rank, the transition, the queue or the named remote rank of an act.
 fn change_act(rng: &mut Rng, program: &Program, act: &mut Act, some_rank: usize) {
     let by_rank = rng.chance(1, 2);
     match act {
         act if by_rank => act.set_rank(some_rank),
         Act::Command { transition, .. } => *transition = rng.below(program.transitions.len()),
-        Act::PopA { queue, .. } | Act::PopB { queue, .. } => *queue = rng.below(program.queues),
+        Act::PopA(pop) | Act::PopB(pop) if pop.remote.is_some() && rng.chance(2, 3) => {
+            pop.remote = Some(rng.within(1..=program.ranks));
+        }
+        Act::PopA(pop) | Act::PopB(pop) => pop.queue = rng.below(program.queues),
     }
 }
 
@@ -209,8 +212,8 @@ pub fn intrude(rng: &mut Rng, program: &Program, items: &mut Vec<Item>) {
     let rank = rng.within(1..=program.ranks);
     let queue = rng.below(program.queues);
     let act = match rng.below(8) {
-        0 => Some(Act::PopA { rank, queue }),
-        1 => Some(Act::PopB { rank, queue }),
+        0 => Some(Act::PopA(Pop::of_all(rank, queue))),
+        1 => Some(Act::PopB(Pop::of_all(rank, queue))),
         2 => any_command(rng, program, Some(Kind::Bar)),
         3 => any_command(rng, program, None),
         _ => refused_command(rng, program, &items[..at]),

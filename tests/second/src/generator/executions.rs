@@ -3,7 +3,7 @@
 use super::rng::Rng;
 use crate::machine::{Machine, Start};
 use crate::program::{Kind, Program};
-use crate::record::{Act, Item};
+use crate::record::{Act, Item, Pop};
 
 /// How long an execution may be, and how its steps are mixed.
 #[derive(Debug, Clone, Copy)]
@@ -163,10 +163,10 @@ impl Execution<'_> {
             for queue in 0..self.program.queues {
                 let state = self.machine.rank(rank);
                 if first && !state.requests[queue].is_empty() {
-                    possible.push(Act::PopA { rank, queue });
+                    possible.push(Act::PopA(Pop::of_all(rank, queue)));
                 }
                 if !first && !state.deliveries[queue].is_empty() {
-                    possible.push(Act::PopB { rank, queue });
+                    possible.push(Act::PopB(Pop::of_all(rank, queue)));
                 }
             }
         }

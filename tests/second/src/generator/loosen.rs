@@ -47,10 +47,10 @@ fn ordered(first: Act, second: Act) -> bool {
     }
     match (first, second) {
         (Act::Command { .. }, Act::Command { .. }) => true,
-        (Act::Command { kind, .. }, Act::PopA { .. }) => kind.is_transfer(),
-        (Act::PopA { queue: one, .. }, Act::PopB { queue: other, .. })
-        | (Act::PopA { queue: one, .. }, Act::PopA { queue: other, .. })
-        | (Act::PopB { queue: one, .. }, Act::PopB { queue: other, .. }) => one == other,
+        (Act::Command { kind, .. }, Act::PopA(_)) => kind.is_transfer(),
+        (Act::PopA(one), Act::PopB(other))
+        | (Act::PopA(one), Act::PopA(other))
+        | (Act::PopB(one), Act::PopB(other)) => one.queue == other.queue,
         _ => false,
     }
 }

@@ -141,7 +141,7 @@ pub fn items_of(record: &[u8]) -> Vec<usize> {
 
 /// The bytes of the fields that a map names.
 pub fn fields(map: u8) -> usize {
-    let bytes = [1, 1, 1, 1, 2, 2, 0, 1].into_iter().enumerate();
+    let bytes = [1, 1, 1, 1, 2, 2, 1, 1].into_iter().enumerate();
     let named = bytes.filter(|(bit, _)| map & (1 << bit) != 0);
     named.map(|(_, bytes)| bytes).sum()
 }
