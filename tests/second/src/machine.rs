@@ -173,6 +173,21 @@ impl Machine {
         self.rank_mut(cell.rank).cells[cell.cell] = value;
     }
 
+    /// The remote ranks of the entries that a pop takes one of, the oldest first; none for a command.
+    pub fn remotes_waiting(&self, act: Act) -> Vec<usize> {
+        match act {
+            Act::Command { .. } => Vec::new(),
+            Act::PopA(pop) => {
+                let requests = self.rank(pop.rank).requests[pop.queue].iter();
+                requests.map(|request| request.remote).collect()
+            }
+            Act::PopB(pop) => {
+                let deliveries = self.rank(pop.rank).deliveries[pop.queue].iter();
+                deliveries.map(|delivery| delivery.remote).collect()
+            }
+        }
+    }
+
     /// Whether every queue of every rank is empty.
     pub fn queues_empty(&self) -> bool {
         self.ranks.iter().all(|rank| {

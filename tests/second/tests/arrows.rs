@@ -4,7 +4,7 @@ mod common;
 
 use common::accepted;
 use second::check::Accepted;
-use second::generator::{many_ranks, middle_run, small_run};
+use second::generator::{many_ranks, middle_run, neighbours, small_run};
 use second::groups::{arrows, Pairs};
 use second::machine::Step;
 use second::order::Verdict;
@@ -104,7 +104,8 @@ fn arrows_and_rings_are_as_defined() {
         rings += usize::from(compare(&accepted(small_run, 31, index)));
         rings += usize::from(compare(&accepted(middle_run, 32, index)));
         rings += usize::from(compare(&accepted(many_ranks::small_run, 33, index)));
+        rings += usize::from(compare(&accepted(neighbours::small_run, 34, index)));
     }
-    println!("arrows: 12000 runs as defined, {rings} of them rings");
-    assert!(rings >= 2_000);
+    println!("arrows: 16000 runs as defined, {rings} of them rings");
+    assert!(rings >= 3_000);
 }

@@ -8,7 +8,7 @@ use second::generator::executions::{execution, pace};
 use second::generator::programs::{every_rank, program_of, SMALL};
 use second::generator::rng::Rng;
 use second::generator::widen::now_and_then;
-use second::generator::{later_run, many_ranks, small_run};
+use second::generator::{later_run, SMALL_RUNS};
 use second::judge::judge;
 use second::judged::Verdicts;
 use second::machine::Start;
@@ -30,7 +30,7 @@ fn arrows_and_the_exhaustive_judge_agree() {
     let (mut counts, mut many, mut high) = (Verdicts::default(), Verdicts::default(), 0);
     for index in 0..RECORDS {
         let rng = &mut Rng::new(1, index);
-        let (program, items) = later_run(rng, small_run, many_ranks::small_run);
+        let (program, items) = later_run(rng, SMALL_RUNS);
         let accepted = accept(&program.to_bytes(), &record_bytes(&items))
             .unwrap_or_else(|refusal| panic!("index {index}: {refusal:?}"));
         assert_eq!((&accepted.program, &accepted.items), (&program, &items));
@@ -75,7 +75,8 @@ fn they_agree_from_other_starts_too() {
         let busy = &every_rank(ranks)[ranks.saturating_sub(3)..];
         let program = program_of(rng, SMALL, ranks, busy);
         let start = random_start(rng, &program);
-        let pace = pace(rng, 16 + ranks, 7);
+        let mut pace = pace(rng, 16 + ranks, 7);
+        pace.naming = rng.below(5);
         let items = execution(rng, &program, busy, &start, pace);
         let (program, items) = now_and_then(rng, (program, items));
         let accepted = accept_items(program, items, &start)

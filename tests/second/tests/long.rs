@@ -4,7 +4,9 @@ mod common;
 
 use common::{accepted, takes_high};
 use second::bounded::{find_bounded, judge_bounded, Found};
-use second::generator::{long_loosened_run, many_ranks, middle_run, small_run};
+use second::generator::rng::Rng;
+use second::generator::widen::Run;
+use second::generator::{long_loosened_run, many_ranks, middle_run, neighbours, small_run};
 use second::judge::{find_plain_run, judge_order};
 use second::machine::Start;
 use second::order::Verdict;
@@ -31,8 +33,9 @@ fn loosened_plain_runs_have_an_order() {
 
 #[test]
 fn the_two_searches_agree_on_small_runs() {
-    for index in 0..4_000 {
-        let accepted = accepted(small_run, 22, index);
+    for index in 0..8_000 {
+        let made = [small_run, neighbours::small_run][index as usize % 2];
+        let accepted = accepted(made, 22, index);
         let start = Start::zero(&accepted.program);
         let exhaustive = find_plain_run(&accepted.program, &start, &accepted.run);
         let bounded = find_bounded(&accepted.program, &start, &accepted.run, LIMIT);
@@ -62,24 +65,34 @@ fn arrows_and_the_bounded_search_agree_on_middle_runs() {
     assert!(orders >= 1_000 && rings >= 1_000 && unknown < 100 && high >= 300);
 }
 
-#[test]
-fn arrows_and_the_bounded_search_agree_on_runs_of_many_ranks() {
+/// Judges runs of any length, as far as the bounded search comes to an end.
+fn judge_runs(made: fn(&mut Rng) -> Run, seed: u64) {
     let (mut orders, mut rings, mut unknown) = (0, 0, 0);
     for index in 0..1_500 {
-        let accepted = accepted(many_ranks::any_run, 24, index);
+        let accepted = accepted(made, seed, index);
         let start = Start::zero(&accepted.program);
         if let Verdict::Order(order) = &accepted.verdict {
             judge_order(&accepted, &start, order)
-                .unwrap_or_else(|fault| panic!("seed 24, index {index}: {fault}"));
+                .unwrap_or_else(|fault| panic!("seed {seed}, index {index}: {fault}"));
         }
         let ended = judge_bounded(&accepted, &start, 500)
-            .unwrap_or_else(|fault| panic!("seed 24, index {index}: {fault}"));
+            .unwrap_or_else(|fault| panic!("seed {seed}, index {index}: {fault}"));
         match &accepted.verdict {
             _ if !ended => unknown += 1,
             Verdict::Order(_) => orders += 1,
             Verdict::Ring(_) => rings += 1,
         }
     }
-    println!("many ranks: {orders} orders, {rings} rings, {unknown} given up");
-    assert!(orders >= 500 && rings >= 100);
+    println!("seed {seed}: {orders} orders, {rings} rings, {unknown} given up");
+    assert!(orders >= 300 && rings >= 100);
+}
+
+#[test]
+fn arrows_and_the_bounded_search_agree_on_runs_of_many_ranks() {
+    judge_runs(many_ranks::any_run, 24);
+}
+
+#[test]
+fn arrows_and_the_bounded_search_agree_on_runs_with_overtaking() {
+    judge_runs(neighbours::any_run, 25);
 }

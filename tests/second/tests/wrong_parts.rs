@@ -179,9 +179,9 @@ fn pops_in_program_order() {
 
 #[test]
 fn queue_order_drawn_as_an_arrow() {
-    // Program order leads the same way along each queue, so only the ring listed can differ, and
-    // the judge does not ask which ring it is.
-    let draw: ArrowMistake = &|steps, group_of| {
+    // Without #108 program order leads the same way along each queue, and only the ring listed can
+    // differ; where a transfer overtakes another, the arrow leads against it.
+    assert_arrows_caught(&|steps, group_of| {
         let mut all = arrows(steps, group_of);
         let mut latest = BTreeMap::new();
         for (item, step) in steps.iter().enumerate() {
@@ -192,9 +192,6 @@ fn queue_order_drawn_as_an_arrow() {
             }
         }
         all
-    };
-    assert_caught(&|program, record, order, cells| {
-        variant(&right_step, draw, [program, record], [order, cells])
     });
 }
 

@@ -5,10 +5,10 @@ use super::damage::{changed, intrude};
 use super::rng::Rng;
 use super::Input;
 use crate::program::{count_bytes, long_count_bytes, Program};
-use crate::record::{record_bytes, Item, HIGH_BIT};
+use crate::record::{record_bytes, Item, HIGH_BIT, REMOTE_BIT};
 
 /// The place of the map in an item's bytes.
-const MAP: usize = 0;
+pub(super) const MAP: usize = 0;
 /// The place of the rank.
 const RANK: usize = 2;
 /// The place of the transition or its low byte; of a pop's queue.
@@ -22,7 +22,11 @@ const CELL: usize = 5;
 pub fn damage(rng: &mut Rng, program: &Program, items: &mut Vec<Item>, input: &mut Input) {
     match rng.below(8) {
         0 | 1 => count(rng, program, &mut input.program),
-        2..=4 if !items.is_empty() => item(rng, program, items, &mut input.record),
+        2..=4 if !items.is_empty() => {
+            let chosen = rng.below(items.len());
+            let change = |rng: &mut Rng, part: &mut Vec<u8>| high_byte(rng, program, part);
+            change_item(rng, items, chosen, &mut input.record, change);
+        }
         5 => {
             replayed(rng, program, items);
             input.record = record_bytes(items);
@@ -75,21 +79,26 @@ fn count(rng: &mut Rng, program: &Program, bytes: &mut Vec<u8>) {
     }
 }
 
-/// Changes the fields of #107 in one item, often with another fault beside it.
-fn item(rng: &mut Rng, program: &Program, items: &[Item], record: &mut Vec<u8>) {
+/// Changes the bytes of one item, often with another fault beside it.
+pub(super) fn change_item(
+    rng: &mut Rng,
+    items: &[Item],
+    chosen: usize,
+    record: &mut Vec<u8>,
+    change: impl FnOnce(&mut Rng, &mut Vec<u8>),
+) {
     let written = |item: &Item| {
         let mut bytes = Vec::new();
         item.write(&mut bytes);
         bytes
     };
     let mut parts: Vec<Vec<u8>> = items.iter().map(written).collect();
-    let chosen = rng.below(parts.len());
-    high_byte(rng, program, &mut parts[chosen]);
+    change(rng, &mut parts[chosen]);
     match rng.below(6) {
         0 | 1 => earlier_field(rng, &mut parts[chosen]),
         2 => {
             if let Some(next) = parts.get_mut(chosen + 1) {
-                next[MAP] = *rng.pick(&[0, HIGH_BIT, 255]);
+                next[MAP] = *rng.pick(&[0, REMOTE_BIT, HIGH_BIT, 255]);
             }
         }
         3 => {
@@ -136,7 +145,7 @@ fn high_byte(rng: &mut Rng, program: &Program, part: &mut Vec<u8>) {
     }
 }
 
-/// Puts a field before the high byte outside its range.
+/// Puts a field before the item's last outside its range.
 fn earlier_field(rng: &mut Rng, part: &mut [u8]) {
     let at = *rng.pick(&[RANK, OWNER, CELL]);
     let last = part.len() - 1;

@@ -22,6 +22,8 @@ pub struct Pace {
     pub valued: usize,
     /// Whether each transfer is followed at once by its pops, as in a plain run.
     pub at_once: bool,
+    /// Of four pops, how many name the remote rank of some entry on average.
+    pub naming: usize,
 }
 
 /// After so many commands in a row that could not be taken, an execution ends.
@@ -42,6 +44,7 @@ pub fn pace(rng: &mut Rng, items: usize, groups: usize) -> Pace {
         popb,
         valued,
         at_once: false,
+        naming: 0,
     }
 }
 
@@ -173,7 +176,12 @@ impl Execution<'_> {
         if possible.is_empty() {
             return false;
         }
-        let act = *rng.pick(&possible);
+        let mut act = *rng.pick(&possible);
+        if self.pace.naming > 0 && rng.chance(self.pace.naming, 4) {
+            let remotes = self.machine.remotes_waiting(act);
+            let named = Some(*rng.pick(&remotes));
+            act.pop_mut().into_iter().for_each(|pop| pop.remote = named);
+        }
         self.append(rng, act)
     }
 

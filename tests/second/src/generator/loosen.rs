@@ -2,9 +2,10 @@
 
 use super::rng::Rng;
 use crate::program::{Kind, Program};
-use crate::record::{Act, Item};
+use crate::record::{Act, Item, Pop};
 
-/// Moves items past their neighbours, at random and as often as drawn; the trace stays.
+/// Moves items past their neighbours, at random and as often as drawn; the trace stays. Either every
+/// pop names its remote rank or none does.
 pub fn loosen(rng: &mut Rng, program: &Program, items: &mut [Item]) {
     if items.len() < 2 {
         return;
@@ -40,7 +41,8 @@ fn same_cell_conflict(first: &Item, second: &Item) -> bool {
     first.place.is_some() && first.place == second.place && (writes(first) || writes(second))
 }
 
-/// Whether program order or a queue keeps the two in this order.
+/// Whether program order or a queue keeps the two in this order; a queue does not if they name
+/// different remote ranks.
 fn ordered(first: Act, second: Act) -> bool {
     if first.rank() != second.rank() {
         return false;
@@ -50,7 +52,16 @@ fn ordered(first: Act, second: Act) -> bool {
         (Act::Command { kind, .. }, Act::PopA(_)) => kind.is_transfer(),
         (Act::PopA(one), Act::PopB(other))
         | (Act::PopA(one), Act::PopA(other))
-        | (Act::PopB(one), Act::PopB(other)) => one.queue == other.queue,
+        | (Act::PopB(one), Act::PopB(other)) => {
+            one.queue == other.queue && !name_others(one, other)
+        }
         _ => false,
     }
+}
+
+/// Whether two pops name different remote ranks.
+fn name_others(one: Pop, other: Pop) -> bool {
+    one.remote
+        .zip(other.remote)
+        .is_some_and(|(one, other)| one != other)
 }

@@ -77,7 +77,7 @@ fn busy(rng: &mut Rng, ranks: usize) -> Vec<usize> {
 }
 
 /// Appends a bar from each state.
-fn add_bars(rng: &mut Rng, program: &mut Program) {
+pub(super) fn add_bars(rng: &mut Rng, program: &mut Program) {
     for from in 0..program.states {
         program.transitions.push(Transition {
             kind: Kind::Bar,

@@ -1,12 +1,14 @@
 //! Seeded, repeatable inputs: random programs, executions of them, and damage.
 
 pub mod aimed;
+pub mod aimed_neighbours;
 pub mod aimed_ranks;
 pub mod damage;
 pub mod executions;
 pub mod expressions;
 pub mod loosen;
 pub mod many_ranks;
+pub mod neighbours;
 pub mod programs;
 pub mod rng;
 pub mod slips;
@@ -17,7 +19,7 @@ use crate::limits::{MAX_RANKS, MAX_SHORT_COUNT, MAX_SHORT_MAP_RANKS};
 use crate::machine::Start;
 use crate::program::{Kind, Program};
 use crate::record::{read_record, record_bytes, Item};
-use executions::{execution, pace};
+use executions::{execution, pace, Pace};
 use programs::{every_rank, Size, CROWDED, MIDDLE, SMALL, WIDE};
 use rng::Rng;
 use widen::{now_and_then, Run};
@@ -67,11 +69,22 @@ fn run(rng: &mut Rng, profile: Profile) -> Run {
 
 /// The program with an execution of it from document 01's start, in which these ranks are busy.
 fn executed(rng: &mut Rng, program: Program, busy: &[usize], profile: Profile) -> Run {
+    let pace = paced(rng, profile);
+    executed_at(rng, program, busy, pace)
+}
+
+/// A random pace for a profile, one in eight that of plain runs.
+fn paced(rng: &mut Rng, profile: Profile) -> Pace {
     let groups = rng
         .within(0..=profile.groups)
         .max(rng.within(0..=profile.groups));
     let mut pace = pace(rng, profile.items, groups);
     pace.at_once = rng.chance(1, 8);
+    pace
+}
+
+/// The program with an execution of it at this pace; a plain run is loosened.
+fn executed_at(rng: &mut Rng, program: Program, busy: &[usize], pace: Pace) -> Run {
     let mut items = execution(rng, &program, busy, &Start::zero(&program), pace);
     if pace.at_once {
         loosen::loosen(rng, &program, &mut items);
@@ -181,18 +194,18 @@ fn roomy(rng: &mut Rng, program: &Program, items: &[Item]) -> Input {
 /// The small input of this number under this seed, for the exhaustive judge; none is damaged.
 pub fn small_input(seed: u64, index: u64) -> Input {
     let mut rng = Rng::new(seed, index);
-    let (program, items) = later_run(&mut rng, small_run, many_ranks::small_run);
+    let (program, items) = later_run(&mut rng, SMALL_RUNS);
     roomy(&mut rng, &program, &items)
 }
 
 /// What inputs are made of.
 #[derive(Debug, Clone, Copy, PartialEq, Eq)]
 enum Edition {
-    /// Document 01 alone, as the older corpus files were made. Nothing is drawn for #105 and #107,
-    /// so that they come out the same.
+    /// Document 01 alone, as the older corpus files were made. Nothing is drawn for #105, #107 and
+    /// #108, so that they come out the same.
     Document01,
-    /// #105 and #107 too: programs of more than 8 ranks and of more than 128 transitions, and
-    /// damage aimed at both.
+    /// #105, #107 and #108 too: programs of more than 8 ranks and of more than 128 transitions,
+    /// transfers that overtake each other, and damage aimed at all of these.
     Later,
 }
 
@@ -209,13 +222,39 @@ impl Edition {
 /// A way to make a random run.
 pub type Maker = fn(&mut Rng) -> Run;
 
-/// A run of one or the other making, one in five of more than eight ranks; now and then widened.
-pub fn later_run(rng: &mut Rng, few_ranks: Maker, many_ranks: Maker) -> Run {
-    let run = if rng.chance(1, 5) {
-        many_ranks(rng)
-    } else {
-        few_ranks(rng)
+/// The ways to make a run of any request.
+#[derive(Debug, Clone, Copy)]
+pub struct Makers {
+    /// As document 01 has them.
+    few_ranks: Maker,
+    /// Of more than eight ranks: #105.
+    many_ranks: Maker,
+    /// With transfers that overtake each other: #108.
+    neighbours: Maker,
+}
+
+/// Small runs, for the exhaustive judge.
+pub const SMALL_RUNS: Makers = Makers {
+    few_ranks: small_run,
+    many_ranks: many_ranks::small_run,
+    neighbours: neighbours::small_run,
+};
+/// Runs of any size.
+const ANY_RUNS: Makers = Makers {
+    few_ranks: any_run,
+    many_ranks: many_ranks::any_run,
+    neighbours: neighbours::any_run,
+};
+
+/// A run of one of the makings: four in twenty of more than eight ranks, and six with transfers
+/// that overtake each other; now and then widened.
+pub fn later_run(rng: &mut Rng, makers: Makers) -> Run {
+    let maker = match rng.below(20) {
+        0..=3 => makers.many_ranks,
+        4..=9 => makers.neighbours,
+        _ => makers.few_ranks,
     };
+    let run = maker(rng);
     now_and_then(rng, run)
 }
 
@@ -234,7 +273,7 @@ fn made(seed: u64, index: u64, edition: Edition) -> Input {
     let mut rng = Rng::new(seed, index);
     let (program, mut items) = match edition {
         Edition::Document01 => any_run(&mut rng),
-        Edition::Later => later_run(&mut rng, any_run, many_ranks::any_run),
+        Edition::Later => later_run(&mut rng, ANY_RUNS),
     };
     let mut input = roomy(&mut rng, &program, &items);
     if rng.chance(1, 2) {
@@ -252,12 +291,21 @@ fn made(seed: u64, index: u64, edition: Edition) -> Input {
         if is_aimed(&mut rng, many) {
             aimed_ranks::damage(&mut rng, &program, &mut items, &mut input);
         }
+        let named = items.iter().any(names_remote);
+        if is_aimed(&mut rng, named) {
+            aimed_neighbours::damage(&mut rng, &program, &mut items, &mut input);
+        }
     }
     input
 }
 
-/// Whether damage is aimed at what a later request brings: every other time where the program is
-/// one that only this request allows, and else one in sixteen times.
+/// Whether an item is a pop that names a remote rank.
+pub fn names_remote(item: &Item) -> bool {
+    item.act.pop().is_some_and(|pop| pop.remote.is_some())
+}
+
+/// Whether damage is aimed at what a later request brings: every other time where the input is one
+/// that only this request allows, and else one in sixteen times.
 fn is_aimed(rng: &mut Rng, allowed_by_it: bool) -> bool {
     rng.chance(1, if allowed_by_it { 2 } else { 16 })
 }
