@@ -180,6 +180,64 @@ fn bit_7_refused() {
     assert_caught(&mistake, pair(155, 1), "good", "wrong-map");
 }
 
+/// The good pairs that bring a remote rank.
+const NAMED: [Pair; 4] = [pair(93, 7), pair(125, 7), pair(93, 8), pair(125, 8)];
+
+#[test]
+fn bit_6_refused() {
+    for named in NAMED {
+        let mistake = taken_for(named, pair(255, named.kind));
+        assert_caught(&mistake, named, "good", "wrong-map");
+    }
+}
+
+#[test]
+fn bit_6_taken_with_a_command() {
+    for (kind, map) in [(1, 59), (2, 27), (3, 3), (4, 131), (5, 3), (6, 131), (9, 3)] {
+        let named = pair(map + 64, kind);
+        assert_caught(
+            &taken_for(named, pair(map, kind)),
+            named,
+            "wrong-map",
+            "good",
+        );
+    }
+}
+
+#[test]
+fn bit_6_of_a_pop_taken_with_a_bit_too_few_or_too_many() {
+    for named in NAMED {
+        for map in [named.map - 4, named.map - 8, named.map + 2, named.map + 128] {
+            let other = pair(map, named.kind);
+            assert_caught(&taken_for(other, named), other, "wrong-map", "good");
+        }
+    }
+}
+
+#[test]
+fn the_remote_rank_passed_over() {
+    let reading = |record: &[u8]| {
+        items_changed(record, &NAMED, |item| {
+            item[0] -= 64;
+            item.pop();
+            item.push(0);
+        })
+    };
+    assert_reading_caught(reading, pair(93, 7));
+}
+
+#[test]
+fn the_remote_rank_read_before_the_value() {
+    let reading = |record: &[u8]| {
+        items_changed(record, &NAMED, |item| {
+            if item[0] == 125 {
+                item[7..].rotate_left(1);
+            }
+        })
+    };
+    assert_reading_caught(reading, pair(125, 7));
+}
+
 #[test]
 fn bit_7_taken_with_a_pop() {
     for (kind, map) in [(7, 29), (7, 61), (8, 29), (8, 61)] {
@@ -222,14 +280,14 @@ fn assert_reading_caught(reading: fn(&[u8]) -> Vec<u8>, at: Pair) {
     assert_fault(held(&check_bytes, &slip_written, list), &begin);
 }
 
-/// The record with the bytes of each whole item that brings a high byte changed.
-fn high_items_changed(record: &[u8], change: fn(&mut Vec<u8>)) -> Vec<u8> {
+/// The record with the bytes of each whole item that has one of these pairs changed.
+fn items_changed(record: &[u8], pairs: &[Pair], change: fn(&mut Vec<u8>)) -> Vec<u8> {
     let mut changed = record[..2].to_vec();
     for at in items_of(record) {
         let end = record.len().min(at + 2 + fields(record[at]));
         let mut item = record[at..end].to_vec();
-        let high = HIGH.contains(&pair(item[0], item[1]));
-        if high && !is_cut(record, at) {
+        let such = pairs.contains(&pair(item[0], item[1]));
+        if such && !is_cut(record, at) {
             change(&mut item);
         }
         changed.extend(item);
@@ -240,7 +298,7 @@ fn high_items_changed(record: &[u8], change: fn(&mut Vec<u8>)) -> Vec<u8> {
 #[test]
 fn the_high_byte_passed_over() {
     let reading = |record: &[u8]| {
-        high_items_changed(record, |item| {
+        items_changed(record, &HIGH, |item| {
             item[0] -= 128;
             item.pop();
         })
@@ -251,7 +309,7 @@ fn the_high_byte_passed_over() {
 #[test]
 fn the_high_byte_read_before_the_value() {
     let reading = |record: &[u8]| {
-        high_items_changed(record, |item| {
+        items_changed(record, &HIGH, |item| {
             if item[0] == 187 {
                 item[7..].rotate_left(1);
             }
@@ -262,7 +320,7 @@ fn the_high_byte_read_before_the_value() {
 
 #[test]
 fn the_high_byte_read_right_after_the_low_one() {
-    let reading = |record: &[u8]| high_items_changed(record, |item| item[4..].rotate_left(1));
+    let reading = |record: &[u8]| items_changed(record, &HIGH, |item| item[4..].rotate_left(1));
     assert_reading_caught(reading, pair(155, 1));
 }
 
@@ -282,7 +340,7 @@ fn bit_7_refused_beside_a_program_without_such_transitions() {
 #[test]
 fn the_map_judged_before_the_kind() {
     let mistake = |_, old: Pair| match (old.form(), old.map) {
-        (Form::UnknownKind, 3 | 27 | 29 | 59 | 61 | 131 | 155 | 187) => old,
+        (Form::UnknownKind, 3 | 27 | 29 | 59 | 61 | 93 | 125 | 131 | 155 | 187) => old,
         (Form::UnknownKind, map) => pair(map, 1),
         _ => old,
     };

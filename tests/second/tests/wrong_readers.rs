@@ -515,6 +515,103 @@ fn a_number_cut_to_8_bits_in_the_replay() {
 }
 
 #[test]
+fn bit_6_always_refused() {
+    assert_rules_misjudged(Rules {
+        may_name: |_| false,
+        ..RIGHT
+    });
+}
+
+#[test]
+fn bit_6_refused_with_one_of_the_pops() {
+    for may_name in [|kind| kind == Kind::PopA, |kind: Kind| kind == Kind::PopB] {
+        assert_rules_misjudged(Rules { may_name, ..RIGHT });
+    }
+}
+
+#[test]
+fn bit_6_taken_with_a_command() {
+    assert_rules_caught(Rules {
+        may_name: |_| true,
+        ..RIGHT
+    });
+    for may_name in [
+        |kind: Kind| kind.is_pop() || kind.is_transfer(),
+        |kind: Kind| kind.is_pop() || kind == Kind::Load,
+        |kind: Kind| kind.is_pop() || kind == Kind::Store,
+    ] {
+        assert_rules_caught(Rules { may_name, ..RIGHT });
+    }
+}
+
+#[test]
+fn a_remote_rank_outside_its_range_left_to_the_replay() {
+    for remotes in [
+        |ranks| 0..=ranks,
+        |ranks| 1..=ranks + 1,
+        |_| 1..=16,
+        |_| 1..=255,
+        |_| 0..=255,
+    ] {
+        assert_rules_caught(Rules { remotes, ..RIGHT });
+    }
+}
+
+#[test]
+fn a_remote_rank_in_its_range_refused() {
+    for remotes in [
+        |ranks| 1..=ranks - 1,
+        |ranks| 2..=ranks,
+        |ranks: usize| 1..=ranks.min(8),
+    ] {
+        assert_rules_misjudged(Rules { remotes, ..RIGHT });
+    }
+}
+
+#[test]
+fn the_remote_rank_read_too_early() {
+    for after in [After::Low, After::Place] {
+        assert_rules_misjudged(Rules {
+            remote_after: after,
+            ..RIGHT
+        });
+    }
+}
+
+#[test]
+fn a_fault_of_the_remote_rank_placed_at_the_queue() {
+    assert_rules_caught(Rules {
+        remote: Placed::Before,
+        ..RIGHT
+    });
+}
+
+#[test]
+fn the_remote_rank_read_and_dropped() {
+    assert_rules_misjudged(Rules {
+        replayed_remote: |_| None,
+        ..RIGHT
+    });
+}
+
+#[test]
+fn the_remote_rank_cut_to_its_low_bits() {
+    assert_rules_misjudged(Rules {
+        replayed_remote: |remote| Some((remote - 1) % 8 + 1),
+        ..RIGHT
+    });
+}
+
+#[test]
+fn the_remote_rank_numbered_from_0() {
+    assert_rules_misjudged(Rules {
+        remotes: |ranks| 0..=ranks - 1,
+        replayed_remote: |remote| Some(remote + 1),
+        ..RIGHT
+    });
+}
+
+#[test]
 fn a_number_cut_to_7_bits_in_the_replay() {
     assert_rules_misjudged(Rules {
         replayed: |number| number % 128,

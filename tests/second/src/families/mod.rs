@@ -3,6 +3,7 @@
 pub mod base;
 pub mod chosen;
 pub mod extremes;
+pub mod neighbours;
 pub mod parts;
 pub mod ranks;
 pub mod replay_table;
@@ -50,6 +51,7 @@ pub fn files(seed: u64) -> Result<Vec<Named>, String> {
         slips::file(seed)?,
         transitions::file()?,
         ranks::file(seed)?,
+        neighbours::file(seed)?,
     ])
 }
 

@@ -52,6 +52,11 @@ pub fn read(own: u16, rank: u16, remote: u16) -> Transition {
     staying(Kind::Read, None, &[own, rank, remote, 0])
 }
 
+/// The transfer on another queue.
+pub fn on_queue(transfer: Transition, queue: u16) -> Transition {
+    with_operand(transfer, 3, Expression::Constant(queue))
+}
+
 /// A bar.
 pub fn bar() -> Transition {
     staying(Kind::Bar, None, &[])
@@ -94,6 +99,22 @@ pub fn popa(rank: usize, place: (usize, usize)) -> Item {
 /// A popb of a rank at a place.
 pub fn popb(rank: usize, place: (usize, usize)) -> Item {
     popping(Act::PopB(Pop::of_all(rank, 0)), place)
+}
+
+/// The pop, which names a remote rank.
+pub fn naming(pop: Item, remote: usize) -> Item {
+    popped(pop, |pop| pop.remote = Some(remote))
+}
+
+/// The pop from another queue.
+pub fn from_queue(pop: Item, queue: usize) -> Item {
+    popped(pop, |pop| pop.queue = queue)
+}
+
+/// The pop that takes its entry from elsewhere.
+fn popped(mut item: Item, change: impl Fn(&mut Pop)) -> Item {
+    item.act.pop_mut().into_iter().for_each(change);
+    item
 }
 
 /// A pop at a place.
