@@ -206,23 +206,15 @@ fn bit_6_taken_with_a_command() {
 
 #[test]
 fn bit_6_of_a_pop_taken_with_a_bit_too_few_or_too_many() {
-    for named in NAMED {
-        for map in [named.map - 4, named.map - 8, named.map + 2, named.map + 128] {
-            let other = pair(map, named.kind);
-            assert_caught(&taken_for(other, named), other, "wrong-map", "good");
-        }
+    for (named, map) in NAMED.into_iter().zip([93 - 4, 125 + 2, 93 + 128, 125 - 8]) {
+        let other = pair(map, named.kind);
+        assert_caught(&taken_for(other, named), other, "wrong-map", "good");
     }
 }
 
 #[test]
 fn the_remote_rank_passed_over() {
-    let reading = |record: &[u8]| {
-        items_changed(record, &NAMED, |item| {
-            item[0] -= 64;
-            item.pop();
-            item.push(0);
-        })
-    };
+    let reading = |record: &[u8]| items_changed(record, &NAMED, |item| item[0] -= 64);
     assert_reading_caught(reading, pair(93, 7));
 }
 
