@@ -19,7 +19,7 @@ use Rattle.model.specs.Checks.{acceptIn, accept, verdictOn, Accepted}
 use Rattle.model.proofs.Laws.{bind-ok, ok-injective}
 use Rattle.model.proofs.Ranges.{read-in-record}
 use Rattle.acceptance.proofs.Acceptance.{record-accepted-iff-run}
-use Rattle.ordering.proofs.Lists.{_∈_}
+use Rattle.model.proofs.Lists.{_∈_}
 use Rattle.ordering.proofs.Edges.{_⟶_, edges-agree}
 use Rattle.ordering.proofs.Orders.{TopologicalOrder, Cycle}
 use Rattle.ordering.proofs.Verdicts.{ordered-or-cyclic}

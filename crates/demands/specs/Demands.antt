@@ -20,7 +20,7 @@ use Rattle.model.specs.HappensBefore.{Edge, HappensBefore, edgesOf}
 use Rattle.model.specs.Traces.{SameTrace, SerialRun}
 use Rattle.model.specs.Checks.{accept, Accepted, orderItems, Outcome}
 use Rattle.acceptance.specs.Bare.{bare}
-use Rattle.ordering.proofs.Lists.{_∈_}
+use Rattle.model.proofs.Lists.{_∈_}
 use Rattle.ordering.proofs.Edges.{_⟶_}
 use Rattle.ordering.proofs.Orders.{TopologicalOrder, Cycle}
 use Rattle.serializability.specs.Claim.{Serialization}

@@ -12,7 +12,7 @@ use Rattle.model.proofs.Laws.{decided, and-true}
 use Rattle.model.proofs.Selections.{select-own, select-other, count-own, count-other}
 use Rattle.memory.specs.Tables.{Table}
 use Rattle.graph.specs.Edges.{edgeAt, sourceAt, targetAt, among}
-use Rattle.ordering.proofs.Lists.{_∈_}
+use Rattle.model.proofs.Lists.{_∈_}
 use Rattle.indexing.specs.Degrees.{inDegree}
 use Rattle.indexing.specs.Indexed.{graphTo, numbersOut, countInto}
 use Rattle.indexing.proofs.Indexes.{graph-more, graph-kept}

@@ -9,7 +9,7 @@ use Rattle.model.specs.Refusals.{ok}
 use Rattle.model.specs.Machine.{Start}
 use Rattle.model.specs.Checks.{Accepted, accept, verdictOn, listed, answered}
 use Rattle.model.specs.Listings.{line, groupLines, cellLine, join, listingOf, printed, printedOf}
-use Rattle.ordering.proofs.Lists.{at-position}
+use Rattle.model.proofs.Lists.{at-position}
 use Rattle.ordering.proofs.Runs.{Listed}
 use Rattle.record_facts.proofs.Bounds.{accepted-bounds}
 use Rattle.memory.specs.Tables.{Table, cellsSize}

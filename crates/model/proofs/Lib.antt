@@ -1,5 +1,6 @@
 -- The laws of each notion, beside its definition; then the table that holds the definitions to the paper.
 pub mod Laws
+pub mod Lists
 pub mod Selections
 pub mod ItemKinds
 pub mod Bytes

@@ -18,7 +18,7 @@ use Rattle.model.specs.Replay.{Event}
 use Rattle.model.specs.HappensBefore.{sameSequence, overwrites, conflict, At, Follows, ProgramOrder, Conflict, HappensBefore}
 use Rattle.model.specs.HappensBefore.{Edge, edges, programEdges, conflictEdges, edgesFrom, edgesOf}
 use Rattle.model.proofs.Laws.{decided}
-use Rattle.ordering.proofs.Lists.{_∈_, here}
+use Rattle.model.proofs.Lists.{_∈_, here}
 use Rattle.ordering.proofs.Links.{sequence-test, overwrite-test}
 use Rattle.ordering.proofs.Nearest.{Nearest, nearest-first, nearest-deeper, nearest-follows, follows-nearest, retest, turned-rest}
 

@@ -14,7 +14,7 @@ use borrow.Author.Tests.{eqb-true, eqb-false}
 use Rattle.model.specs.HappensBefore.{Edge}
 use Rattle.model.specs.Rings.{lowest, turned, fromLowest}
 use Rattle.model.proofs.Laws.{decided}
-use Rattle.ordering.proofs.Lists.{_∈_, here, there, Distinct, distinct-last}
+use Rattle.model.proofs.Lists.{_∈_, here, there, Distinct, distinct-last}
 use Rattle.ordering.proofs.Walks.{Closed, closed-turns}
 use Rattle.ordering.proofs.WalkBack.{min-either, Circuit}
 

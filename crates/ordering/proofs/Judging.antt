@@ -10,7 +10,7 @@ use Rattle.model.specs.Choice.{numbersFrom}
 use Rattle.model.specs.HappensBefore.{Edge}
 use Rattle.model.specs.Orders.{Placing, place, ordered, cyclic, judgedBy, verdict}
 use Rattle.model.specs.Rings.{walkBack, fromLowest}
-use Rattle.ordering.proofs.Lists.{_∈_, here, numbersFrom-length, numbersFrom-bounds, in-numbersFrom, numbersFrom-distinct}
+use Rattle.model.proofs.Lists.{_∈_, here, numbersFrom-length, numbersFrom-bounds, in-numbersFrom, numbersFrom-distinct}
 use Rattle.ordering.proofs.Placing.{Placed, place-placed}
 use Rattle.ordering.proofs.Walks.{closed-more}
 use Rattle.ordering.proofs.WalkBack.{Circuit, walk-closes}

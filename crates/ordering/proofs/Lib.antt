@@ -1,6 +1,5 @@
 -- The argument in its reading order: edges as they are drawn and as they are worded, how many there are, chains of edges, the greedy placing, the
 -- walk back and its cycle, the verdict, and what all this says of a run.
-pub mod Lists
 pub mod Nearest
 pub mod Links
 pub mod Edges

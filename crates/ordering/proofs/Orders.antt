@@ -5,7 +5,7 @@ use mathlib.Core.List.{List}
 use mathlib.Core.Option.{some}
 use lib.ListN.{length, getElem?}
 use Rattle.model.specs.HappensBefore.{Edge}
-use Rattle.ordering.proofs.Lists.{_∈_, position, Distinct, one-place, Precedes, precedes-trans, precedes-irreflexive, pigeonhole}
+use Rattle.model.proofs.Lists.{_∈_, position, Distinct, one-place, Precedes, precedes-trans, precedes-irreflexive, pigeonhole}
 use Rattle.ordering.proofs.Edges.{_⟶_}
 use Rattle.ordering.proofs.Walks.{Closed, not-closed}
 

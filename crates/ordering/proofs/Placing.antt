@@ -15,8 +15,8 @@ use Rattle.model.specs.HappensBefore.{Edge}
 use Rattle.model.specs.Orders.{hasEdgeInto, firstFree, without, notFrom, Placing, stuck, placeNext, place}
 use Rattle.model.proofs.Selections.{select-keeps, select-within}
 use Rattle.model.proofs.Laws.{decided}
-use Rattle.ordering.proofs.Lists.{_∈_, here, there, Distinct, Precedes, precedes-rest, precedes-later}
-use Rattle.ordering.proofs.Lists.{without-keeps, without-within, without-length, without-distinct, without-gone}
+use Rattle.model.proofs.Lists.{_∈_, here, there, Distinct, Precedes, precedes-rest, precedes-later}
+use Rattle.model.proofs.Lists.{without-keeps, without-within, without-length, without-distinct, without-gone}
 
 -- All edges are between these groups.
 abbrev pub Within : List ℕ → List Edge → Type 0

@@ -14,7 +14,7 @@ use Rattle.model.specs.Orders.{Verdict, ordered, cyclic, verdict}
 use Rattle.model.specs.Checks.{listed}
 use Rattle.ordering.proofs.Edges.{_⟶_, edges-agree}
 use Rattle.ordering.proofs.Chains.{Reaches, reaches-relates}
-use Rattle.ordering.proofs.Lists.{_∈_, Precedes, precedes-trans}
+use Rattle.model.proofs.Lists.{_∈_, Precedes, precedes-trans}
 use Rattle.ordering.proofs.Orders.{Proper, TopologicalOrder, Cycle, cycle-length}
 use Rattle.ordering.proofs.Verdicts.{verdict-order, verdict-cycle, rising-ordered}
 

@@ -10,7 +10,7 @@ use Rattle.model.specs.Choice.{numbersFrom}
 use Rattle.model.specs.HappensBefore.{Edge}
 use Rattle.model.specs.Orders.{Verdict, ordered, cyclic, verdict}
 use Rattle.model.specs.Rings.{fromLowest}
-use Rattle.ordering.proofs.Lists.{_∈_}
+use Rattle.model.proofs.Lists.{_∈_}
 use Rattle.ordering.proofs.Walks.{Closed, closed-next, closed-back, closed-two, not-closed}
 use Rattle.ordering.proofs.WalkBack.{Circuit}
 use Rattle.ordering.proofs.FromLowest.{fromLowest-circuit, fromLowest-lowest}

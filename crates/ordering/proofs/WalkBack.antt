@@ -18,7 +18,7 @@ use Rattle.model.specs.HappensBefore.{Edge}
 use Rattle.model.specs.Orders.{hasEdgeInto, firstFree}
 use Rattle.model.specs.Rings.{lower, predecessor, upTo, walkBack}
 use Rattle.model.proofs.Laws.{decided}
-use Rattle.ordering.proofs.Lists.{_∈_, here, there, member-true, member-false, Distinct, distinct-front, distinct-within}
+use Rattle.model.proofs.Lists.{_∈_, here, there, member-true, member-false, Distinct, distinct-front, distinct-within}
 use Rattle.ordering.proofs.Edges.{_⟶_}
 use Rattle.ordering.proofs.Placing.{Within, into-edge, none-free}
 use Rattle.ordering.proofs.Walks.{Along, Closed, along-front, closed-turns}

@@ -10,7 +10,7 @@ use mathlib.Core.Option.{some, Option·none-ne-some, Option·some-injective}
 use native.Mathlib.Omega.{arith}
 use lib.ListN.{length, getElem?}
 use Rattle.model.specs.HappensBefore.{Edge}
-use Rattle.ordering.proofs.Lists.{_∈_, here}
+use Rattle.model.proofs.Lists.{_∈_, here}
 use Rattle.ordering.proofs.Edges.{_⟶_}
 
 -- A walk: edges lead from g to the first of the list, and from each of the list to the next.

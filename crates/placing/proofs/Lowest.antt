@@ -12,7 +12,7 @@ use Rattle.model.specs.HappensBefore.{Edge}
 use Rattle.model.specs.Orders.{firstFree, without}
 use Rattle.model.proofs.Laws.{decided}
 use Rattle.model.proofs.Selections.{select-yes, select-no}
-use Rattle.ordering.proofs.Lists.{numbersFrom-bounds}
+use Rattle.model.proofs.Lists.{numbersFrom-bounds}
 use Rattle.indexing.specs.Degrees.{inDegree}
 use Rattle.placing.proofs.Selecting.{select-same}
 use Rattle.placing.proofs.Degrees.{into-counted, but}

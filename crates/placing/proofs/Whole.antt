@@ -19,7 +19,7 @@ use Rattle.memory.specs.Tables.{Table}
 use Rattle.bitmap.specs.Bitmaps.{emptyBitmap}
 use Rattle.graph.specs.Edges.{groupsIn, among, graphIn}
 use Rattle.graph.proofs.Edges.{selected-among, groups-bound}
-use Rattle.ordering.proofs.Lists.{_∈_, at-position, numbersFrom-bounds}
+use Rattle.model.proofs.Lists.{_∈_, at-position, numbersFrom-bounds}
 use Rattle.indexing.specs.Degrees.{inDegree, inDegrees}
 use Rattle.indexing.specs.Indexes.{Index, emptyIndex, indexed, readiedAll}
 use Rattle.indexing.specs.Indexed.{Indexed, graphTo}

@@ -13,7 +13,7 @@ use Rattle.model.specs.HappensBefore.{Edge}
 use Rattle.model.specs.Rings.{fromLowest, ring}
 use Rattle.model.proofs.Laws.{decided, and-true}
 use Rattle.model.proofs.Selections.{select-yes, select-no, select-within}
-use Rattle.ordering.proofs.Lists.{_∈_}
+use Rattle.model.proofs.Lists.{_∈_}
 use Rattle.graph.specs.Edges.{groupsIn, among}
 use Rattle.graph.proofs.Edges.{selected-among}
 use Rattle.rings.specs.declared.Found.{Found}

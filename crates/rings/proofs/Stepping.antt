@@ -15,7 +15,7 @@ use Rattle.model.specs.Choice.{member}
 use Rattle.model.specs.HappensBefore.{Edge}
 use Rattle.model.specs.Rings.{upTo, stepBack, predecessor, walkBack}
 use Rattle.model.proofs.Laws.{decided}
-use Rattle.ordering.proofs.Lists.{_∈_}
+use Rattle.model.proofs.Lists.{_∈_}
 use Rattle.ordering.proofs.WalkBack.{predecessor-edge}
 use Rattle.rings.specs.Predecessors.{orNone, lowestPredecessors}
 use Rattle.rings.specs.declared.walks.Walk.{Walk}

@@ -15,7 +15,7 @@ use Rattle.model.specs.Replay.{Event}
 use Rattle.model.specs.HappensBefore.{At}
 use Rattle.model.specs.Checks.{inGroup, arranged}
 use Rattle.model.proofs.Selections.{select-append, select-commute, select-from, Selected, select-all, selected-rises, passing-first}
-use Rattle.ordering.proofs.Lists.{Precedes}
+use Rattle.model.proofs.Lists.{Precedes}
 use Rattle.serializability.specs.Orders.{Dependent, Forward}
 
 -- The events outside a group.

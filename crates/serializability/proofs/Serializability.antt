@@ -20,7 +20,7 @@ use Rattle.model.specs.HappensBefore.{HappensBefore}
 use Rattle.model.specs.Orders.{Verdict, ordered, cyclic}
 use Rattle.model.specs.Traces.{SameTrace, InRecord, SerialRun}
 use Rattle.model.specs.Checks.{verdictOn, orderItems}
-use Rattle.ordering.proofs.Lists.{position, at-position, one-place}
+use Rattle.model.proofs.Lists.{position, at-position, one-place}
 use Rattle.ordering.proofs.Chains.{conflict-reaches, program-reaches}
 use Rattle.ordering.proofs.Runs.{run-order, chain-forward, rising-run}
 use Rattle.record_facts.specs.Facts.{Facts}

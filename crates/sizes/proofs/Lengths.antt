@@ -21,7 +21,7 @@ use Rattle.model.specs.Listings.{decimal, line, lineFeed, space, groupWord, cel
 use Rattle.model.specs.Listings.{groupLine, groupLines, cellLine, join, refusedLine}
 use Rattle.model.proofs.Laws.{decided}
 use Rattle.model.proofs.Listings.{decimal-short, kind-short}
-use Rattle.ordering.proofs.Lists.{_∈_, here, there}
+use Rattle.model.proofs.Lists.{_∈_, here, there}
 use Rattle.sizes.specs.Sizes.{maxVerdictLine, maxGroupLine, maxCellLine}
 use Rattle.sizes.proofs.Refusals.{RefusalFits}
 

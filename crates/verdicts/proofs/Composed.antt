@@ -12,7 +12,7 @@ use Rattle.model.specs.Choice.{select, numbersFrom}
 use Rattle.model.specs.HappensBefore.{Edge}
 use Rattle.model.specs.Orders.{Placing, ordered, cyclic, judgedBy, verdict}
 use Rattle.memory.proofs.Filled.{numbers-at}
-use Rattle.ordering.proofs.Lists.{numbersFrom-bounds}
+use Rattle.model.proofs.Lists.{numbersFrom-bounds}
 use Rattle.graph.specs.Edges.{among, groupsIn}
 use Rattle.graph.proofs.Edges.{AllAmong, selected-among, groups-bound}
 use Rattle.indexing.specs.Degrees.{inDegree, inDegrees}
