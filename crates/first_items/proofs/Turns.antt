@@ -66,7 +66,7 @@ module _ (h : Header) (recorded : List ℕ) (firsts : Table) (group : ℕ) where
       unfolding firstOf
       again-unread q = rw (lt-ltb _ _ row, lt-ltb _ _ some, item-refused (readItem h recorded (placeIn firsts group)) p q)
 
-      pub again-read : {item : Item} {next : ℕ} → read ≡ ItemRead.the-variants.Read item next →
+      pub again-read : {item : Item} {next : ℕ} → read ≡ ItemRead.the-variants.Read next item →
           First.the-variants.Item item (numberIn firsts group) ≡ firstOf h recorded firsts group
       unfolding firstOf
       again-read q = rw (lt-ltb _ _ row, lt-ltb _ _ some, item-found (readItem h recorded (placeIn firsts group)) p q)

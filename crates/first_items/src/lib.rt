@@ -51,7 +51,7 @@ pub fn first_items(recorded: &[u8], header: Header, trail: &Trail, items: usize)
     while number < items {
         match read_item(recorded, place, header) {
             ItemRead::Refused(_) => return firsts,
-            ItemRead::Read { item: _, next } => {
+            ItemRead::Read { next, item: _ } => {
                 note(trail, number, place, &mut firsts);
                 place = next;
             }
@@ -75,7 +75,7 @@ pub fn first_of(recorded: &[u8], header: Header, firsts: &Firsts, group: u16) ->
     }
     match read_item(recorded, firsts[row][1], header) {
         ItemRead::Refused(_) => First::Nothing,
-        ItemRead::Read { item, next: _ } => First::Item {
+        ItemRead::Read { next: _, item } => First::Item {
             item,
             number: number as u16,
         },

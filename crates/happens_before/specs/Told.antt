@@ -60,6 +60,7 @@ eventTold t =
             queue = 0;
             place = address 0 0;
             given = Absent;
+            remote = 0;
             kind = kindTold (t .rank);
           };
       place = 0;

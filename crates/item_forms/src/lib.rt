@@ -34,11 +34,11 @@ pub fn item_form(map: u16, kind: u16) -> ItemForm
             _ => ItemForm::WrongMap,
         },
         7 => match map {
-            29 | 61 => ItemForm::Good(Kind::Popa),
+            29 | 61 | 93 | 125 => ItemForm::Good(Kind::Popa),
             _ => ItemForm::WrongMap,
         },
         8 => match map {
-            29 | 61 => ItemForm::Good(Kind::Popb),
+            29 | 61 | 93 | 125 => ItemForm::Good(Kind::Popb),
             _ => ItemForm::WrongMap,
         },
         9 => match map {

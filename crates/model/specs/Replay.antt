@@ -190,7 +190,8 @@ afterFetch s i a rest =
     (s .machine .deliveries (i .rank) (i .queue) ++ sentOn s a ∷ []))
     i (a .mark) (readOf (a .source) (sentOn s a .value))
 
--- "popa takes the head request of the named queue", or the oldest for the rank that it names, "reads the source cell now, and appends destination and value to that queue's deliveries."
+-- "popa takes the head request of the named queue", or the oldest for the rank that it names, "reads the source cell now, and appends destination
+-- and value to that queue's deliveries."
 unfoldable pub takeFetch : Replay → (at : ℕ) → Item → Option (Request Origin × List (Request Origin)) → Result Taken
 unfolding setRequests setDeliveries agreed
 takeFetch s at i none = refuse emptyQueue at

@@ -116,14 +116,14 @@ pub enum Given {
     Absent,
 }
 
-// An item of a record. A field that the item's map leaves out is 0; so a pop whose `remote` is 0 names no remote rank. The kind, one byte, stands
-// last, so that the numbers lie on even places and are copied in whole words.
+// An item of a record. A field that the item's map leaves out is 0; so a pop whose `remote` is 0 names no remote rank. Four numbers, then place and
+// value, are eight bytes each, and the kind, one byte, stands last: so an item is put together and copied in whole words.
 pub struct Item {
     pub rank: u16,
     pub transition: u16,
     pub queue: u16,
+    pub remote: u16,
     pub place: Address,
     pub given: Given,
-    pub remote: u16,
     pub kind: Kind,
 }

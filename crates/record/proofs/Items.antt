@@ -69,17 +69,20 @@ unfolding _>>=_ valueField givenValue
 given-is true rest bytes at = bind-assoc (word recordLength bytes at) _ _
 given-is false rest bytes at = refl
 
+-- What follows the value.
+abbrev endFrom : Header → (map : ℕ) → Item → Given → Reader Item
+endFrom header map item given =
+    rankField (bit 6 map) (header .ranks) >>= (λ r.
+    transitionField (bit 7 map) (header .transitions) (item .transition) >>= (λ t. pure (withEnd item t given r)))
+
 pub readEnd-is : (header : Header) (map : ℕ) (item : Item) (bytes : List ℕ) (at : ℕ) →
-    readEnd header map item bytes at
-    ≡ (valueField (bit 5 map) >>= (λ v.
-    transitionField (bit 7 map) (header .transitions) (item .transition) >>= (λ t. pure (withEnd item t (given (bit 5 map) v))))) bytes at
+    readEnd header map item bytes at ≡ (valueField (bit 5 map) >>= (λ v. endFrom header map item (given (bit 5 map) v))) bytes at
 unfolding readEnd
-readEnd-is header map item bytes at =
-    given-is (bit 5 map) (λ g. transitionField (bit 7 map) (header .transitions) (item .transition) >>= (λ t. pure (withEnd item t g))) bytes at
+readEnd-is header map item bytes at = given-is (bit 5 map) (endFrom header map item) bytes at
 
 -- An item that was read, and one that was not.
 abbrev resultOf : ItemRead → Result (Found Item)
-resultOf (ItemRead.the-variants.Read item next) = found item next
+resultOf (ItemRead.the-variants.Read next item) = found item next
 resultOf (ItemRead.the-variants.Refused r) = refused r
 
 back : (m : Result (Found Item)) → resultOf (itemRead m) ≡ m
@@ -87,7 +90,7 @@ back (ok f) = refl
 back (refused r) = refl
 
 pub item-found : (m : Result (Found Item)) {a : ItemRead} {i : Item} {n : ℕ} →
-    a ≡ itemRead m → a ≡ ItemRead.the-variants.Read i n → m ≡ found i n
+    a ≡ itemRead m → a ≡ ItemRead.the-variants.Read n i → m ≡ found i n
 item-found m p q = told itemRead resultOf back m p q
 
 pub item-refused : (m : Result (Found Item)) {a : ItemRead} {r : Refusal} →

@@ -57,7 +57,7 @@ module _ (header : Header) (bytes : List ℕ) (at count : ℕ) where
     item-fails zero h q = absurd (not-suc-le-zero h)
     item-fails (suc n) h q = rw (item-refused (readItem header bytes at) p q)
 
-    pub item-read : (left : ℕ) {item : Item} {next : ℕ} → 0 < left → read ≡ ItemRead.the-variants.Read item next →
+    pub item-read : (left : ℕ) {item : Item} {next : ℕ} → 0 < left → read ≡ ItemRead.the-variants.Read next item →
         counted count (itemsToEnd header (left - 1) bytes next) ≡ counted count (itemsToEnd header left bytes at)
     unfolding itemsToEnd times
     item-read zero h q = absurd (not-suc-le-zero h)
@@ -168,7 +168,7 @@ pub record Decoded (header : Header) (bytes : List ℕ) (items : List Item) (ans
   pub rest : List Item
   pub next : ℕ
   pub items-are : items ≡ item ∷ rest
-  pub answer-is : answer ≡ ItemRead.the-variants.Read item next
+  pub answer-is : answer ≡ ItemRead.the-variants.Read next item
   pub rest-from : ItemsFrom header bytes next rest
 
 pub decoded : {header : Header} {bytes : List ℕ} {at : ℕ} {items : List Item} {answer : ItemRead} → ItemsFrom header bytes at items →

@@ -18,36 +18,70 @@ use Rattle.record.specs.Optional.{rankField, numberField, lowField, tran
 
 -- An item of which only the kind is known.
 abbrev pub bare : Kind → Item
-bare kind = record { kind = kind; rank = 0; transition = 0; queue = 0; place = record { rank = 0; cell = 0 }; given = Absent }
+bare kind =
+    record { kind = kind; rank = 0; transition = 0; queue = 0; place = record { rank = 0; cell = 0 }; given = Absent; remote = 0 }
 
 -- An item with some fields filled in.
 abbrev pub withActor : Item → (rank transition : ℕ) → Item
 withActor item rank transition =
-    record { kind = item .kind; rank = rank; transition = transition; queue = item .queue; place = item .place; given = item .given }
+    record {
+      kind = item .kind;
+      rank = rank;
+      transition = transition;
+      queue = item .queue;
+      place = item .place;
+      given = item .given;
+      remote = item .remote;
+    }
 
 abbrev pub withQueue : Item → (queue : ℕ) → Item
 withQueue item queue =
-    record { kind = item .kind; rank = item .rank; transition = item .transition; queue = queue; place = item .place; given = item .given }
+    record {
+      kind = item .kind;
+      rank = item .rank;
+      transition = item .transition;
+      queue = queue;
+      place = item .place;
+      given = item .given;
+      remote = item .remote;
+    }
 
 abbrev pub withPlace : Item → Address → Item
 withPlace item place =
-    record { kind = item .kind; rank = item .rank; transition = item .transition; queue = item .queue; place = place; given = item .given }
+    record {
+      kind = item .kind;
+      rank = item .rank;
+      transition = item .transition;
+      queue = item .queue;
+      place = place;
+      given = item .given;
+      remote = item .remote;
+    }
 
-abbrev pub withEnd : Item → (transition : ℕ) → Given → Item
-withEnd item transition given =
-    record { kind = item .kind; rank = item .rank; transition = transition; queue = item .queue; place = item .place; given = given }
+abbrev pub withEnd : Item → (transition : ℕ) → Given → (remote : ℕ) → Item
+withEnd item transition given remote =
+    record {
+      kind = item .kind;
+      rank = item .rank;
+      transition = transition;
+      queue = item .queue;
+      place = item .place;
+      given = given;
+      remote = remote;
+    }
 
 -- A value that was read, or none.
 abbrev pub given : (present : Bool) → (value : ℕ) → Given
 given true value = Value value
 given false value = Absent
 
--- The value and the transition's high byte, which end the item.
+-- The value, and then the remote rank and the transition's high byte, of which no kind has both.
 unfoldable pub readEnd : Header → (map : ℕ) → Item → Reader Item
 readEnd header map item = do
   given ← optional (bit 5 map) Absent givenValue
+  remote ← rankField (bit 6 map) (header .ranks)
   transition ← transitionField (bit 7 map) (header .transitions) (item .transition)
-  pure (withEnd item transition given)
+  pure (withEnd item transition given remote)
 
 -- The place and what follows it.
 unfoldable pub readPlace : Header → (map : ℕ) → Item → Reader Item
@@ -71,5 +105,5 @@ readActor header map item = do
 
 -- What the item reader answers, from what the definition finds.
 abbrev pub itemRead : Result (Found Item) → ItemRead
-itemRead (ok f) = ItemRead.the-variants.Read (f .value) (f .next)
+itemRead (ok f) = ItemRead.the-variants.Read (f .next) (f .value)
 itemRead (refused r) = ItemRead.the-variants.Refused r

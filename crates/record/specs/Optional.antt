@@ -7,7 +7,7 @@ use Rattle.model.specs.Choice.{between}
 use Rattle.model.specs.Bytes.{Reader, byte, word, judged, optional}
 use Rattle.model.specs.Records.{lowByte, highByte}
 
--- A rank or a place's rank, 1 to `ranks`.
+-- A rank, a place's rank or a remote rank, 1 to `ranks`.
 unfoldable pub rankField : (present : Bool) → (ranks : ℕ) → Reader ℕ
 rankField present ranks = optional present 0 (judged (between 1 ranks) recordRange (byte recordLength))
 

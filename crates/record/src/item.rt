@@ -23,9 +23,10 @@ ghost use mathlib.Core.Path.{_≡_};
 ghost use Rattle.model.specs.Records.{readItem};
 ghost use Rattle.record.specs.Items.{bare, given, withEnd, itemRead, readActor, readQueue, readPlace, readEnd};
 
-// What stands at a place: an item and the place after it, or the refusal.
+// What stands at a place: the place after it and an item, or the refusal. The place stands first, so that the words of the item, and not halves of
+// them, lie where a refusal's do.
 pub enum ItemRead {
-    Read { item: Item, next: usize },
+    Read { next: usize, item: Item },
     Refused(Refusal),
 }
 
@@ -65,6 +66,7 @@ fn bare(kind: Kind) -> Item
         queue: 0,
         place: Address { rank: 0, cell: 0 },
         given: Given::Absent,
+        remote: 0,
     }
 }
 
@@ -120,24 +122,28 @@ fn read_place(bytes: &[u8], at: usize, header: Header, map: u16, mut item: Item)
     read_end(bytes, next, header, map, item)
 }
 
-// The value and the transition's high byte, which end the item.
+// What ends an item: the value, where it gives one; and a pop's remote rank, "as its last field", or "the transition's high byte after all other
+// fields". No kind has both of these.
 fn read_end(bytes: &[u8], at: usize, header: Header, map: u16, item: Item) -> ItemRead
     ensures { λ r. ⌜ r ≡ itemRead (readEnd header map item (now (bytes .entry)) at) ⌝ }
 {
     let present = bit(map, 5);
     let first = read_value(bytes, at, present);
-    let Field::Read(value, high_at) = first else {
+    let Field::Read(value, remote_at) = first else {
         return ItemRead::Refused(first.refusal());
     };
-    let low = item.transition;
-    let high = bit(map, 7);
-    let second = read_transition(bytes, high_at, high, low, header.transitions);
-    let Field::Read(transition, next) = second else {
+    let second = read_rank(bytes, remote_at, bit(map, 6), header.ranks);
+    let Field::Read(remote, high_at) = second else {
         return ItemRead::Refused(second.refusal());
     };
+    let low = item.transition;
+    let third = read_transition(bytes, high_at, bit(map, 7), low, header.transitions);
+    let Field::Read(transition, next) = third else {
+        return ItemRead::Refused(third.refusal());
+    };
     ItemRead::Read {
-        item: with_end(item, transition, given(present, value)),
         next,
+        item: with_end(item, transition, given(present, value), remote),
     }
 }
 
@@ -152,9 +158,9 @@ fn given(present: bool, value: u16) -> Given
     }
 }
 
-// An item with its transition's whole number, and with what it gives.
-fn with_end(item: Item, transition: u16, given: Given) -> Item
-    ensures { λ r. ⌜ r ≡ withEnd item transition given ⌝ }
+// An item with its transition's whole number, with what it gives, and with the remote rank that it names.
+fn with_end(item: Item, transition: u16, given: Given, remote: u16) -> Item
+    ensures { λ r. ⌜ r ≡ withEnd item transition given remote ⌝ }
 {
     let kind = item.kind;
     let place = item.place;
@@ -165,5 +171,6 @@ fn with_end(item: Item, transition: u16, given: Given) -> Item
         queue: item.queue,
         place,
         given,
+        remote,
     }
 }

@@ -46,7 +46,7 @@ fn read_items(bytes: &[u8], from: usize, header: Header, count: u16) -> RecordRe
     let mut left = count;
     while left > 0 {
         match read_item(bytes, at, header) {
-            ItemRead::Read { item: _, next } => {
+            ItemRead::Read { next, item: _ } => {
                 at = next;
             }
             ItemRead::Refused(refusal) => {

@@ -56,7 +56,7 @@ pub fn take_items(
     while left > 0 {
         match read_item(recorded, place, header) {
             ItemRead::Refused(refusal) => return Ran::Refused(refusal),
-            ItemRead::Read { item, next } => {
+            ItemRead::Read { next, item } => {
                 match take_item(
                     program,
                     starts,

@@ -25,7 +25,7 @@ loop-holds : tie.Need-loop-holds Inv-loop μ-loop
 loop-holds c = refl
 
 -- The item of a turn, and what the step made of it.
-abbrev atItem : (c : tie.After-take-item Inv-loop μ-loop) → tie.After-item Inv-loop μ-loop
+abbrev atItem : (c : tie.After-take-item Inv-loop μ-loop) → tie.After-next Inv-loop μ-loop
 atItem c =
     let atArrays = c .before .before .before in
     let atArgs = atArrays .before .before .before in
@@ -46,7 +46,7 @@ returns-2 c =
     let atTurn = atRead .before in
     ran-refused
     (atTurn .before .loop .inv
-    ∙ turn-refused _ _ _ _ _ _ (atTurn .loop-test .taken) _ (item-found _ (atRead .read-item .ensures) (atItem atTaken .item .given .1))
+    ∙ turn-refused _ _ _ _ _ _ (atTurn .loop-test .taken) _ (item-found _ (atRead .read-item .ensures) (atItem atTaken .next .given .1))
     (atTaken .take-item .ensures .does) _ (c .before .refusal2 .given .1))
 
 loop-again : tie.Need-loop-again Inv-loop μ-loop
@@ -57,7 +57,7 @@ loop-again c =
     let atTurn = atRead .before in
     rw (c .tell .ensures)
     (atTurn .before .loop .inv
-    ∙ turn-taken _ _ _ _ _ _ (atTurn .loop-test .taken) _ (item-found _ (atRead .read-item .ensures) (atItem atTaken .item .given .1))
+    ∙ turn-taken _ _ _ _ _ _ (atTurn .loop-test .taken) _ (item-found _ (atRead .read-item .ensures) (atItem atTaken .next .given .1))
     (atTaken .take-item .ensures .does) _ _ _ (atAfter .after .given .1))
 
 returns-3 : tie.Need-returns-3 Inv-loop μ-loop
