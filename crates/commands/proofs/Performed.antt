@@ -25,13 +25,13 @@ module _ {most : ℕ} {m : Memory} {s : State Origin} (held : Holds most m s) (r
   performed origin (stores a v) b few = holds-cell (holds-later held) (address rank a) v (record { rankHeld = r; cellHeld = b })
   performed origin (assigns x v) b few = holds-register (holds-later held) rank x v r b
   performed origin passes b few = holds-later held
-  performed origin (issues q source destination) b few =
+  performed origin (issues q remote source destination) b few =
       record {
         controls = held .controls;
         registers = held .registers;
         cells = held .cells;
         queues =
-            append-queued (held .queues) rank q (record { source = source; destination = destination; mark = origin })
+            append-queued (held .queues) rank q (record { remote = remote; source = source; destination = destination; mark = origin })
             (record { rankHeld = r; queueHeld = b; itemHeld = few });
       }
   performed origin meets b few = holds-later held
@@ -43,7 +43,7 @@ module _ {most : ℕ} {m : Memory} {s : State Origin} (held : Holds most m s) (r
   same-access (stores a v) b = refl
   same-access (assigns x v) b = refl
   same-access passes b = refl
-  same-access (issues q source destination) b = refl
+  same-access (issues q remote source destination) b = refl
   same-access meets b = refl
 
   pub access-placed : (a : Action) → ActionFits a → (cells : ℕ → ℕ → ℕ) → Placed (accessOf rank a cells)
@@ -52,7 +52,7 @@ module _ {most : ℕ} {m : Memory} {s : State Origin} (held : Holds most m s) (r
   access-placed (stores a v) b cells = record { rankHeld = r; cellHeld = b }
   access-placed (assigns x v) b cells = tt
   access-placed passes b cells = tt
-  access-placed (issues q source destination) b cells = tt
+  access-placed (issues q remote source destination) b cells = tt
   access-placed meets b cells = tt
 
 -- No action touches the control states.
@@ -62,5 +62,5 @@ control-kept rank at group (loads x a) m = refl
 control-kept rank at group (stores a v) m = refl
 control-kept rank at group (assigns x v) m = refl
 control-kept rank at group passes m = refl
-control-kept rank at group (issues q source destination) m = refl
+control-kept rank at group (issues q remote source destination) m = refl
 control-kept rank at group meets m = refl

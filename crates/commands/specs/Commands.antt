@@ -29,8 +29,8 @@ performOn rank at group (loads x a) m = withRegisters m (stored registersSize (m
 performOn rank at group (stores a v) m = withCells m (stored cellsSize (m .cells) rank a v)
 performOn rank at group (assigns x v) m = withRegisters m (stored registersSize (m .registers) rank x v)
 performOn rank at group passes m = m
-performOn rank at group (issues q source destination) m =
-    withQueues m (appended (m .queues) rank q at (record { source = source; destination = destination; group = group }))
+performOn rank at group (issues q remote source destination) m =
+    withQueues m (appended (m .queues) rank q at (record { remote = remote; source = source; destination = destination; group = group }))
 performOn rank at group meets m = m
 
 -- The arrays after a command's action, with its rank in the target state.

@@ -50,6 +50,7 @@ pub fn access_of(action: Action, rank: u16, cells: &Cells) -> Accessed
         Action::Passes => Accessed::Nothing,
         Action::Issues {
             queue: _,
+            remote: _,
             source: _,
             destination: _,
         } => Accessed::Nothing,
@@ -87,10 +88,12 @@ pub fn perform(
         Action::Passes => {}
         Action::Issues {
             queue,
+            remote,
             source,
             destination,
         } => {
             let request = Request {
+                remote,
                 source,
                 destination,
                 group,

@@ -73,7 +73,7 @@ ActionFits (loads x a) = (x < maxRegisters) × (a < maxCells)
 ActionFits (stores a v) = a < maxCells
 ActionFits (assigns x v) = x < maxRegisters
 ActionFits passes = Unit {0}
-ActionFits (issues q source destination) = q < maxQueues
+ActionFits (issues q remote source destination) = q < maxQueues
 ActionFits meets = Unit {0}
 
 -- The queue of a transfer whose operands passed.

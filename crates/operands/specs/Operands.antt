@@ -35,7 +35,7 @@ actionIn (Action.the-variants.Loads register cell) = loads register cell
 actionIn (Action.the-variants.Stores cell value) = stores cell value
 actionIn (Action.the-variants.Assigns register value) = assigns register value
 actionIn Action.the-variants.Passes = passes
-actionIn (Action.the-variants.Issues queue source destination) = issues queue source destination
+actionIn (Action.the-variants.Issues queue remote source destination) = issues queue remote source destination
 actionIn Action.the-variants.Meets = meets
 
 abbrev pub askedIn : Asked → Result Machine.Action
@@ -59,12 +59,12 @@ transferBy h rank at o = do
   _ ← require (ltb (o .queue) (h .queues)) operandRange at
   ok (record { own = address rank (o .own); remote = address (o .rank) (o .cell); queue = o .queue })
 
--- "read appends (e2, e3, own rank, e1)"; "write appends (own rank, e1, e2, e3)"
+-- "read appends (e2, e3, own rank, e1)"; "write appends (own rank, e1, e2, e3)". Both remember e2, "for a read, the rank read from".
 abbrev pub reads : Result Transfer → Result Machine.Action
-reads transfer = transfer >>= (λ t. ok (issues (t .queue) (t .remote) (t .own)))
+reads transfer = transfer >>= (λ t. ok (issues (t .queue) (t .remote .rank) (t .remote) (t .own)))
 
 abbrev pub writes : Result Transfer → Result Machine.Action
-writes transfer = transfer >>= (λ t. ok (issues (t .queue) (t .own) (t .remote)))
+writes transfer = transfer >>= (λ t. ok (issues (t .queue) (t .remote .rank) (t .own) (t .remote)))
 
 -- "passes if e1 is not 0"
 abbrev pub assumed : (at value : ℕ) → Result Machine.Action

@@ -11,6 +11,8 @@ ghost use mathlib.Core.Path.{_≡_};
 ghost use lib.Dec.{ltb};
 ghost use Rattle.operands.specs.Operands.{kindIn, actionIn, askedIn, transferIn, ranged, transferBy, reads, writes, assumed, actionBy};
 ghost use Rattle.model.specs.Choice.{between};
+ghost use Rattle.model.specs.Refusals.{ok};
+ghost use Rattle.model.specs.Machine.{issues};
 
 // What a command does once its operands are in their ranges.
 pub enum Action {
@@ -29,6 +31,7 @@ pub enum Action {
     Passes,
     Issues {
         queue: u16,
+        remote: u16,
         source: Address,
         destination: Address,
     },
@@ -121,16 +124,24 @@ fn assume(value: u16, at: usize) -> Asked
     }
 }
 
-// "read appends (e2, e3, own rank, e1)"
+// A transfer that is issued: "A pending request now remembers its remote rank".
+fn issue(queue: u16, remote: u16, source: Address, destination: Address) -> Asked
+    ensures { λ r. ⌜ askedIn r ≡ ok (issues queue remote source destination) ⌝ }
+{
+    Asked::Does(Action::Issues {
+        queue,
+        remote,
+        source,
+        destination,
+    })
+}
+
+// "read appends (e2, e3, own rank, e1)", and remembers "the rank read from".
 fn read(transfer: Transferred) -> Asked
     ensures { λ r. ⌜ askedIn r ≡ reads (transferIn transfer) ⌝ }
 {
     match transfer {
-        Transferred::Between { own, remote, queue } => Asked::Does(Action::Issues {
-            queue,
-            source: remote,
-            destination: own,
-        }),
+        Transferred::Between { own, remote, queue } => issue(queue, remote.rank, remote, own),
         Transferred::Refused(refusal) => Asked::Refused(refusal),
     }
 }
@@ -140,11 +151,7 @@ fn write(transfer: Transferred) -> Asked
     ensures { λ r. ⌜ askedIn r ≡ writes (transferIn transfer) ⌝ }
 {
     match transfer {
-        Transferred::Between { own, remote, queue } => Asked::Does(Action::Issues {
-            queue,
-            source: own,
-            destination: remote,
-        }),
+        Transferred::Between { own, remote, queue } => issue(queue, remote.rank, own, remote),
         Transferred::Refused(refusal) => Asked::Refused(refusal),
     }
 }

@@ -3,7 +3,6 @@
 use Prim.Native.Nat.{ℕ, _<_}
 use mathlib.Core.Path.{_≡_, refl, ap, _∙_}
 use mathlib.Core.Bool.{Bool, true, false}
-use mathlib.Core.List.{List}
 use mathlib.Core.Option.{Option, some}
 use native.Mathlib.Omega.{arith}
 use lib.Dec.{eqb}
@@ -12,18 +11,16 @@ use Rattle.model.specs.declared.Address.{Address}
 use Rattle.model.specs.declared.Item.{Item}
 use Rattle.model.specs.Limits.{maxItems, maxQueues}
 use Rattle.model.specs.Machine.{Access, Request, Delivery, readOf, writeOf, cellAt, setRequests, setDeliveries}
-use Rattle.model.specs.Replay.{Origin, Replay, Taken, oldest, sameAddress, agrees, agreesWith}
+use Rattle.model.specs.Replay.{Origin, Replay, Taken, requestFor, deliveryFor, oldest, sameAddress, agrees, agreesWith}
 use Rattle.model.specs.Replay.{agreed, afterFetch, afterDelivery, takeFetch, takeDelivery}
 use Rattle.model.proofs.Laws.{decided, and-true}
 use Rattle.memory.specs.Tables.{Rank, Place, cellsSize, stored}
 use Rattle.queues.specs.declared.Oldest.{Oldest}
-use Rattle.queues.specs.declared.Oldest.the-variants.{Entry, Empty}
-use Rattle.queues.specs.declared.Part.the-variants.{Requests, Deliveries}
 use Rattle.queues.specs.Entries.{requestAt, deliveryAt}
-use Rattle.queues.specs.Lists.{oldestIn}
 use Rattle.queues.specs.Queued.{bareRequest, bareDelivery}
 use Rattle.queues.specs.Transfers.{fetched, delivered}
-use Rattle.queues.proofs.Queued.{request-none, delivery-none, request-waits, delivery-waits, fetch-queued, deliver-queued}
+use Rattle.queues.proofs.Searches.{positionOf, none-waits, one-waits}
+use Rattle.queues.proofs.Queued.{RequestTold, RequestWaits, DeliveryTold, DeliveryWaits, request-told, delivery-told, fetch-queued, deliver-queued}
 use Rattle.items.specs.declared.rows.Progress.{Progress}
 use Rattle.items.specs.Accesses.{accessNumber, accessTold}
 use Rattle.items.specs.Progress.{popProgress}
@@ -76,83 +73,88 @@ module _ (m : Memory) (p : Progress) (s : Replay) (i : Item) (stands : Standing 
         sameAccess = ap accessNumber a ∙ told-number access at-place;
       }
 
-  -- "popa takes the head request of the named queue, reads the source cell now, and appends destination and value to that queue's deliveries."
-  module _ (a : Request Origin) (rest : List (Request Origin)) (head : oldest (s .machine .requests (i .rank) (i .queue)) ≡ some (a, rest)) where
+  -- With the request that waits, popa "reads the source cell now, and appends destination and value to that queue's deliveries."
+  module _ (w : RequestWaits (stands .holds .queues) i r q) where
+    abbrev a : Request Origin
+    a = w .taken
+
     abbrev read : ℕ
     read = cellAt (cellsIn m) (a .source)
 
     abbrev after : Memory
-    after = withQueues m (fetched (m .queues) (i .rank) (i .queue) read)
+    after = withQueues m (fetched (m .queues) (i .rank) (i .queue) (positionOf 0 w) read)
 
-    fetch-holds : cellAt (s .machine .cells) (a .source) ≡ read → Holds (p .at) after (afterFetch s i a rest .state .machine)
+    fetch-holds : cellAt (s .machine .cells) (a .source) ≡ read → Holds (p .at) after (afterFetch s i a (w .rest) .state .machine)
     unfolding setRequests setDeliveries
     fetch-holds v =
         record {
           controls = stands .holds .controls;
           registers = stands .holds .registers;
           cells = stands .holds .cells;
-          queues = rw (← v) (fetch-queued (stands .holds .queues) (i .rank) (i .queue) r q (cellAt (s .machine .cells) (a .source)) a rest head);
+          queues = rw (← v) (fetch-queued (stands .holds .queues) i r q (cellAt (s .machine .cells) (a .source)) w);
         }
 
     fetch-follows : agreesWith i (readOf (a .source) read) ≡ true →
-        Follows (p .at) (afterFetch s i a rest) after (popProgress p) (a .mark .group) (accessTold (readOf (a .source) read))
+        Follows (p .at) (afterFetch s i a (w .rest)) after (popProgress p) (a .mark .group) (accessTold (readOf (a .source) read))
     fetch-follows e =
         let held = agreed-place false (a .source) read e in
         let v = stands .holds .cells .same (a .source .rank) (a .source .cell) (held .rankHeld) (held .cellHeld) in
         pop-follows (fetch-holds v) refl refl refl (ap (readOf (a .source)) v) held
 
-    fetched-together : Together (p .at) m (agreed (p .at) (afterFetch s i a rest)) (fetchedOn i p (bareRequest a) m)
+    fetched-together : Together (p .at) m (agreed (p .at) (afterFetch s i a (w .rest))) (fetchedOn i p (positionOf 0 w) (bareRequest a) m)
     unfolding fetchedOn
     fetched-together =
-        together-agreed (p .at) m (afterFetch s i a rest) (readOf (a .source) read) _ (same-read (a .source)) fetch-follows
+        together-agreed (p .at) m (afterFetch s i a (w .rest)) (readOf (a .source) read) _ (same-read (a .source)) fetch-follows
 
-  -- "popb takes the head delivery and writes it."
-  module _ (b : Delivery Origin) (rest : List (Delivery Origin)) (head : oldest (s .machine .deliveries (i .rank) (i .queue)) ≡ some (b, rest)) where
-    delivery-queues : Holds (p .at) (withQueues m (delivered (m .queues) (i .rank) (i .queue))) (setDeliveries (s .machine) (i .rank) (i .queue) rest)
+  -- With the delivery that waits, popb "writes it."
+  module _ (w : DeliveryWaits (stands .holds .queues) i r q) where
+    abbrev b : Delivery Origin
+    b = w .taken
+
+    abbrev taken-out : Memory
+    taken-out = withQueues m (delivered (m .queues) (i .rank) (i .queue) (positionOf 0 w))
+
+    delivery-queues : Holds (p .at) taken-out (setDeliveries (s .machine) (i .rank) (i .queue) (w .rest))
     unfolding setDeliveries
     delivery-queues =
         record {
           controls = stands .holds .controls;
           registers = stands .holds .registers;
           cells = stands .holds .cells;
-          queues = deliver-queued (stands .holds .queues) (i .rank) (i .queue) r q b rest head;
+          queues = deliver-queued (stands .holds .queues) i r q w;
         }
 
     delivery-follows : agreesWith i (writeOf (b .destination) (b .value)) ≡ true →
-        Follows (p .at) (afterDelivery s i b rest)
-        (withCells (withQueues m (delivered (m .queues) (i .rank) (i .queue)))
-        (stored cellsSize (m .cells) (b .destination .rank) (b .destination .cell) (b .value)))
+        Follows (p .at) (afterDelivery s i b (w .rest))
+        (withCells taken-out (stored cellsSize (m .cells) (b .destination .rank) (b .destination .cell) (b .value)))
         (popProgress p) (b .mark .group) (accessTold (writeOf (b .destination) (b .value)))
     delivery-follows e =
         let held = agreed-place true (b .destination) (b .value) e in
         pop-follows (holds-cell delivery-queues (b .destination) (b .value) held) refl refl refl refl held
 
-    delivered-together : Together (p .at) m (agreed (p .at) (afterDelivery s i b rest)) (deliveredOn i p (bareDelivery b) m)
+    delivered-together : Together (p .at) m (agreed (p .at) (afterDelivery s i b (w .rest))) (deliveredOn i p (positionOf 0 w) (bareDelivery b) m)
     unfolding deliveredOn
     delivered-together =
-        together-agreed (p .at) m (afterDelivery s i b rest) (writeOf (b .destination) (b .value)) _ refl delivery-follows
+        together-agreed (p .at) m (afterDelivery s i b (w .rest)) (writeOf (b .destination) (b .value)) _ refl delivery-follows
 
-  -- The oldest entry that the code finds is the definition's.
-  fetch-by : (o : Oldest) → oldestIn (m .queues .ends) (i .rank) (i .queue) Requests ≡ o →
-      Together (p .at) m (takeFetch s (p .at) i (oldest (s .machine .requests (i .rank) (i .queue))))
-      (poppedOn (p .at) (λ e. fetchedOn i p (requestAt (m .queues .pool) e) m) o)
+  -- The entry that the code finds is the one that the definition chooses.
+  fetch-by : {o : Oldest} → RequestTold (stands .holds .queues) i r q o →
+      Together (p .at) m (takeFetch s (p .at) i (oldest (requestFor i) (s .machine .requests (i .rank) (i .queue))))
+      (poppedOn (p .at) (λ position. fetchedOn i p position (requestAt (m .queues .pool) (position .entry)) m) o)
   unfolding takeFetch
-  fetch-by Empty h = rw (request-none (stands .holds .queues) (i .rank) (i .queue) r q h) refl
-  fetch-by (Entry e) h =
-      let w = request-waits (stands .holds .queues) (i .rank) (i .queue) r q e h in
-      rw (w .stands, w .reads) (fetched-together (w .first) (w .rest) (w .stands))
+  fetch-by (none-waits chosen) = rw chosen refl
+  fetch-by (one-waits w) = rw (w .chosen, w .reads) (fetched-together w)
 
-  delivery-by : (o : Oldest) → oldestIn (m .queues .ends) (i .rank) (i .queue) Deliveries ≡ o →
-      Together (p .at) m (takeDelivery s (p .at) i (oldest (s .machine .deliveries (i .rank) (i .queue))))
-      (poppedOn (p .at) (λ e. deliveredOn i p (deliveryAt (m .queues .pool) e) m) o)
+  delivery-by : {o : Oldest} → DeliveryTold (stands .holds .queues) i r q o →
+      Together (p .at) m (takeDelivery s (p .at) i (oldest (deliveryFor i) (s .machine .deliveries (i .rank) (i .queue))))
+      (poppedOn (p .at) (λ position. deliveredOn i p position (deliveryAt (m .queues .pool) (position .entry)) m) o)
   unfolding takeDelivery
-  delivery-by Empty h = rw (delivery-none (stands .holds .queues) (i .rank) (i .queue) r q h) refl
-  delivery-by (Entry e) h =
-      let w = delivery-waits (stands .holds .queues) (i .rank) (i .queue) r q e h in
-      rw (w .stands, w .reads) (delivered-together (w .first) (w .rest) (w .stands))
+  delivery-by (none-waits chosen) = rw chosen refl
+  delivery-by (one-waits w) = rw (w .chosen, w .reads) (delivered-together w)
 
-  pub fetch-together : Together (p .at) m (takeFetch s (p .at) i (oldest (s .machine .requests (i .rank) (i .queue)))) (fetchOn i p m)
-  fetch-together = fetch-by (oldestIn (m .queues .ends) (i .rank) (i .queue) Requests) refl
+  pub fetch-together : Together (p .at) m (takeFetch s (p .at) i (oldest (requestFor i) (s .machine .requests (i .rank) (i .queue)))) (fetchOn i p m)
+  fetch-together = fetch-by (request-told (stands .holds .queues) i r q)
 
-  pub delivery-together : Together (p .at) m (takeDelivery s (p .at) i (oldest (s .machine .deliveries (i .rank) (i .queue)))) (deliveryOn i p m)
-  delivery-together = delivery-by (oldestIn (m .queues .ends) (i .rank) (i .queue) Deliveries) refl
+  pub delivery-together :
+      Together (p .at) m (takeDelivery s (p .at) i (oldest (deliveryFor i) (s .machine .deliveries (i .rank) (i .queue)))) (deliveryOn i p m)
+  delivery-together = delivery-by (delivery-told (stands .holds .queues) i r q)

@@ -1,4 +1,5 @@
-// The pops: a fetch reads the source cell of the oldest request, a delivery writes the oldest delivery.
+// The pops: a fetch reads the source cell of the oldest request, a delivery writes the oldest delivery. A pop that names a remote rank chooses among
+// the entries for that rank.
 use items::access::Accessed;
 use items::access::access_number;
 use items::access::agrees_with;
@@ -16,6 +17,7 @@ use queues::Ends;
 use queues::Oldest;
 use queues::Part;
 use queues::Pool;
+use queues::Position;
 use queues::entries::delivery_at;
 use queues::entries::request_at;
 use queues::lists::oldest;
@@ -29,21 +31,22 @@ ghost use Rattle.machine.specs.Arrays.{memory};
 ghost use Rattle.machine.specs.Outcomes.{GoesBy};
 ghost use Rattle.pops.specs.Pops.{fetchedOn, deliveredOn, fetchOn, deliveryOn};
 
-// "popa takes the head request of the named queue, reads the source cell now, and appends destination and value to that queue's deliveries."
+// With the request at this position, popa "reads the source cell now, and appends destination and value to that queue's deliveries."
 fn fetch_entry(
-    entry: u16,
+    position: Position,
     item: Item,
     progress: Progress,
     cells: &Cells,
     pool: &mut Pool,
     ends: &mut Ends,
 ) -> Outcome
-    ensures { λ r. ⌜ ((control : List ℕ) (registers : Table) → GoesBy (fetchedOn item progress (requestAt (now (pool .entry)) entry))
+    ensures { λ r. ⌜ ((control : List ℕ) (registers : Table) →
+        GoesBy (fetchedOn item progress position (requestAt (now (pool .entry)) (position .entry)))
         (memory control registers (now (cells .entry)) (now (pool .entry)) (now (ends .entry)))
         (memory control registers (now (cells .entry)) (now (pool .exit)) (now (ends .exit)))
         r) ⌝ }
 {
-    let request = request_at(pool, entry);
+    let request = request_at(pool, position.entry);
     let place = request.source;
     let value = cell_at(cells, place);
     let access = Accessed::Cell {
@@ -59,7 +62,7 @@ fn fetch_entry(
     }
     let next = pop_progress(progress);
     let access = access_number(access);
-    fetch(pool, ends, item.rank, item.queue, value);
+    fetch(pool, ends, item.rank, item.queue, position, value);
     Outcome::Taken {
         next,
         group: request.group,
@@ -67,21 +70,22 @@ fn fetch_entry(
     }
 }
 
-// "popb takes the head delivery and writes it."
+// With the delivery at this position, popb "writes it."
 fn deliver_entry(
-    entry: u16,
+    position: Position,
     item: Item,
     progress: Progress,
     cells: &mut Cells,
     pool: &mut Pool,
     ends: &mut Ends,
 ) -> Outcome
-    ensures { λ r. ⌜ ((control : List ℕ) (registers : Table) → GoesBy (deliveredOn item progress (deliveryAt (now (pool .entry)) entry))
+    ensures { λ r. ⌜ ((control : List ℕ) (registers : Table) →
+        GoesBy (deliveredOn item progress position (deliveryAt (now (pool .entry)) (position .entry)))
         (memory control registers (now (cells .entry)) (now (pool .entry)) (now (ends .entry)))
         (memory control registers (now (cells .exit)) (now (pool .exit)) (now (ends .exit)))
         r) ⌝ }
 {
-    let delivery = delivery_at(pool, entry);
+    let delivery = delivery_at(pool, position.entry);
     let place = delivery.destination;
     let value = delivery.value;
     let access = Accessed::Cell {
@@ -97,7 +101,7 @@ fn deliver_entry(
     }
     let next = pop_progress(progress);
     let access = access_number(access);
-    deliver(pool, ends, item.rank, item.queue);
+    deliver(pool, ends, item.rank, item.queue, position);
     set_cell(cells, place, value);
     Outcome::Taken {
         next,
@@ -106,7 +110,7 @@ fn deliver_entry(
     }
 }
 
-// A fetch of the oldest request.
+// "popa takes the head request of the named queue", or the oldest for the rank that it names.
 pub fn take_fetch(
     item: Item,
     progress: Progress,
@@ -119,9 +123,16 @@ pub fn take_fetch(
         (memory control registers (now (cells .entry)) (now (pool .exit)) (now (ends .exit)))
         r) ⌝ }
 {
-    let head = oldest(ends, item.rank, item.queue, Part::Requests);
-    match head {
-        Oldest::Entry(entry) => fetch_entry(entry, item, progress, cells, pool, ends),
+    let found = oldest(
+        pool,
+        ends,
+        item.rank,
+        item.queue,
+        Part::Requests,
+        item.remote,
+    );
+    match found {
+        Oldest::Entry(position) => fetch_entry(position, item, progress, cells, pool, ends),
         Oldest::Empty => Outcome::Refused(Refusal {
             number: EMPTY_QUEUE,
             place: progress.at,
@@ -129,7 +140,7 @@ pub fn take_fetch(
     }
 }
 
-// A delivery of the oldest entry that was fetched.
+// "popb takes the head delivery", or the oldest for the rank that it names.
 pub fn take_delivery(
     item: Item,
     progress: Progress,
@@ -142,9 +153,16 @@ pub fn take_delivery(
         (memory control registers (now (cells .exit)) (now (pool .exit)) (now (ends .exit)))
         r) ⌝ }
 {
-    let head = oldest(ends, item.rank, item.queue, Part::Deliveries);
-    match head {
-        Oldest::Entry(entry) => deliver_entry(entry, item, progress, cells, pool, ends),
+    let found = oldest(
+        pool,
+        ends,
+        item.rank,
+        item.queue,
+        Part::Deliveries,
+        item.remote,
+    );
+    match found {
+        Oldest::Entry(position) => deliver_entry(position, item, progress, cells, pool, ends),
         Oldest::Empty => Outcome::Refused(Refusal {
             number: EMPTY_QUEUE,
             place: progress.at,

@@ -9,10 +9,11 @@ use Rattle.model.proofs.Laws.{and-true}
 use Rattle.memory.specs.Tables.{Table, rowOf, stored}
 use Rattle.memory.proofs.Tables.{row-held, row-below}
 use Rattle.queues.specs.declared.Request.{Request}
+use Rattle.queues.specs.declared.Position.{Position}
 use Rattle.queues.specs.declared.Part.the-variants.{Requests, Deliveries}
 use Rattle.queues.specs.Entries.{poolSize, valueField, linkField, requestStored}
 use Rattle.queues.specs.Lists.{Queues, tables, follower, endOf, endsSize, tailEnd, listOf, withEnd, nextSet, linked, unlinked}
-use Rattle.queues.specs.Transfers.{Room, hasRoom, appended, fetchedEntry}
+use Rattle.queues.specs.Transfers.{Room, hasRoom, appended, fetched}
 
 module _ (pool ends : Table) (rank list : ℕ) where
   pub link-made : (entry last : ℕ) (pool₁ pool₂ ends₂ ends₃ : Table) → last ≡ endOf (tables pool ends) rank (tailEnd list) →
@@ -36,12 +37,13 @@ module _ (pool ends : Table) (rank queue : ℕ) where
   unfolding appended
   append-made at request l pool₁ t room h₁ h₂ h₃ = rw room (rw (h₁, h₂) at h₃)
 
-  pub fetch-made : (previous entry value l₁ l₂ : ℕ) (pool₁ pool₂ ends₂ : Table) (t : Queues) → pool₁ ≡ stored poolSize pool entry valueField value →
-      l₁ ≡ listOf queue Requests → tables pool₂ ends₂ ≡ unlinked (tables pool₁ ends) rank l₁ previous entry → l₂ ≡ listOf queue Deliveries →
-      t ≡ linked (tables pool₂ ends₂) rank l₂ entry → t ≡ fetchedEntry (tables pool ends) rank queue previous entry value
-  unfolding fetchedEntry
-  fetch-made previous entry value l₁ l₂ pool₁ pool₂ ends₂ t h₁ h₂ h₃ h₄ h₅ =
-      (rw h₄ at h₅) ∙ ap (λ s. linked s rank (listOf queue Deliveries) entry) (rw (h₁, h₂) at h₃)
+  pub fetch-made : (p : Position) (value l₁ l₂ : ℕ) (pool₁ pool₂ ends₂ : Table) (t : Queues) →
+      pool₁ ≡ stored poolSize pool (p .entry) valueField value →
+      l₁ ≡ listOf queue Requests → tables pool₂ ends₂ ≡ unlinked (tables pool₁ ends) rank l₁ (p .previous) (p .entry) →
+      l₂ ≡ listOf queue Deliveries → t ≡ linked (tables pool₂ ends₂) rank l₂ (p .entry) → t ≡ fetched (tables pool ends) rank queue p value
+  unfolding fetched
+  fetch-made p value l₁ l₂ pool₁ pool₂ ends₂ t h₁ h₂ h₃ h₄ h₅ =
+      (rw h₄ at h₅) ∙ ap (λ s. linked s rank (listOf queue Deliveries) (p .entry)) (rw (h₁, h₂) at h₃)
 
 -- The test for room, and what it says.
 module _ (rank queue at : ℕ) where

@@ -1,23 +1,25 @@
 -- What the entries of a list stand for: a stored request is read back, and a list that joins, leaves or stays says what the model's list says.
 use Prim.Native.Nat.{ℕ, _+_, _<_}
-use mathlib.Core.Path.{_≡_, sym, ap, _∙_}
+use mathlib.Core.Path.{_≡_, refl, sym, ap, _∙_}
 use mathlib.Core.Logic.{_≢_}
-use mathlib.Core.List.{List, [], _∷_, _++_, map, map-append}
+use mathlib.Core.List.{List, [], _∷_, _++_, map, map-append, cons-ne-nil}
 use mathlib.Core.Bool.{_&&_}
 use native.Mathlib.Omega.{arith}
 use lib.Dec.{eqb}
+use borrow.Author.Tests.{ne-eqb}
 use Rattle.model.specs.Limits.{maxItems, maxQueues}
 use Rattle.model.specs.Machine.{put₂}
+use Rattle.model.specs.Replay.{isEmpty}
 use Rattle.model.proofs.Laws.{decided, put₂-same, put₂-other}
 use Rattle.memory.specs.Tables.{Table, Row, Rank, Shaped, numberAt, stored}
 use Rattle.memory.proofs.Stores.{same-place, other-place, shaped, number-same, number-other}
 use Rattle.queues.specs.declared.Request.{Request}
 use Rattle.queues.specs.declared.Part.{Part}
 use Rattle.queues.specs.declared.Part.the-variants.{Requests, Deliveries}
-use Rattle.queues.specs.Entries.{poolSize, sourceField, destinationField, valueField, groupField}
+use Rattle.queues.specs.Entries.{poolSize, sourceField, destinationField, valueField, groupField, remoteField}
 use Rattle.queues.specs.Entries.{linkField, addressStored, requestAt, deliveryAt, requestStored}
 use Rattle.queues.specs.Lists.{listOf}
-use Rattle.queues.specs.Chains.{All}
+use Rattle.queues.specs.Chains.{first, All}
 use Rattle.queues.proofs.EntryLists.{map-same}
 
 -- A request looks at neither value nor link, a delivery not at the link.
@@ -28,6 +30,7 @@ module _ (pool pool′ : Table) (e : ℕ) where
   pub request-same : ((field : ℕ) → field ≢ linkField → field ≢ valueField → Kept field) → requestAt pool′ e ≡ requestAt pool e
   request-same same =
       rw (
+        same remoteField (λ p. omega (arith, p)) (λ p. omega (arith, p)),
         same sourceField (λ p. omega (arith, p)) (λ p. omega (arith, p)),
         same (sourceField + 1) (λ p. omega (arith, p)) (λ p. omega (arith, p)),
         same destinationField (λ p. omega (arith, p)) (λ p. omega (arith, p)),
@@ -38,6 +41,7 @@ module _ (pool pool′ : Table) (e : ℕ) where
   pub delivery-same : ((field : ℕ) → field ≢ linkField → Kept field) → deliveryAt pool′ e ≡ deliveryAt pool e
   delivery-same same =
       rw (
+        same remoteField (λ p. omega (arith, p)),
         same destinationField (λ p. omega (arith, p)),
         same (destinationField + 1) (λ p. omega (arith, p)),
         same valueField (λ p. omega (arith, p)),
@@ -59,12 +63,16 @@ module _ (pool : Table) (e : ℕ) (request : Request) where
   p₄ = addressStored p₂ e destinationField (request .destination)
 
   abbrev p₅ : Table
-  p₅ = requestStored pool e request
+  p₅ = stored poolSize p₄ e groupField (request .group)
+
+  abbrev p₆ : Table
+  p₆ = requestStored pool e request
 
   pub request-shape : Shaped poolSize pool → Shaped poolSize (requestStored pool e request)
   request-shape shape =
-      shaped poolSize _ e groupField (request .group)
-      (address-shape _ destinationField (request .destination) (address-shape _ sourceField (request .source) shape))
+      shaped poolSize p₅ e remoteField (request .remote)
+      (shaped poolSize p₄ e groupField (request .group)
+      (address-shape p₂ destinationField (request .destination) (address-shape pool sourceField (request .source) shape)))
     where
       address-shape : (p : Table) (field : ℕ) (a : _) → Shaped poolSize p → Shaped poolSize (addressStored p e field a)
       address-shape p field a s = shaped poolSize _ e (field + 1) (a .cell) (shaped poolSize p e field (a .rank) s)
@@ -72,7 +80,8 @@ module _ (pool : Table) (e : ℕ) (request : Request) where
   pub stored-other : (x field : ℕ) → ((k : ℕ) → k ≢ linkField → k ≢ valueField → ¬ ((x ≡ e) × (field ≡ k))) →
       numberAt poolSize (requestStored pool e request) x field ≡ numberAt poolSize pool x field
   stored-other x field apart =
-      number-other poolSize p₄ e groupField (request .group) x field (apart groupField (λ p. omega (arith, p)) (λ p. omega (arith, p)))
+      number-other poolSize p₅ e remoteField (request .remote) x field (apart remoteField (λ p. omega (arith, p)) (λ p. omega (arith, p)))
+      ∙ number-other poolSize p₄ e groupField (request .group) x field (apart groupField (λ p. omega (arith, p)) (λ p. omega (arith, p)))
       ∙ number-other poolSize p₃ e (destinationField + 1) (request .destination .cell) x field
       (apart (destinationField + 1) (λ p. omega (arith, p)) (λ p. omega (arith, p)))
       ∙ number-other poolSize p₂ e destinationField (request .destination .rank) x field
@@ -92,26 +101,31 @@ module _ (pool : Table) (e : ℕ) (request : Request) where
       let s₂ = shaped poolSize p₁ e (sourceField + 1) (request .source .cell) s₁ in
       let s₃ = shaped poolSize p₂ e destinationField (request .destination .rank) s₂ in
       let s₄ = shaped poolSize p₃ e (destinationField + 1) (request .destination .cell) s₃ in
-      let last : (field : ℕ) → field ≢ groupField → numberAt poolSize p₅ e field ≡ numberAt poolSize p₄ e field =
-      later p₄ groupField (request .group) in
-      let afterPlace : (field : ℕ) → field < destinationField → numberAt poolSize p₄ e field ≡ numberAt poolSize p₂ e field =
+      let s₅ = shaped poolSize p₄ e groupField (request .group) s₄ in
+      let afterPlaces : (field : ℕ) → field < groupField → numberAt poolSize p₆ e field ≡ numberAt poolSize p₄ e field =
+      λ field b.
+      later p₅ remoteField (request .remote) field (λ p. omega (arith, p, b))
+      ∙ later p₄ groupField (request .group) field (λ p. omega (arith, p, b)) in
+      let afterSource : (field : ℕ) → field < destinationField → numberAt poolSize p₄ e field ≡ numberAt poolSize p₂ e field =
       λ field b.
       later p₃ (destinationField + 1) (request .destination .cell) field (λ p. omega (arith, p, b))
       ∙ later p₂ destinationField (request .destination .rank) field (λ p. omega (arith, p, b)) in
       rw (
-        last sourceField (λ p. omega (arith, p))
-            ∙ afterPlace sourceField (omega arith)
+        number-same poolSize p₅ e remoteField (request .remote) s₅ r (omega arith),
+        afterPlaces sourceField (omega arith)
+            ∙ afterSource sourceField (omega arith)
             ∙ later p₁ (sourceField + 1) (request .source .cell) sourceField (λ p. omega (arith, p))
             ∙ number-same poolSize pool e sourceField (request .source .rank) shape r (omega arith),
-        last (sourceField + 1) (λ p. omega (arith, p))
-            ∙ afterPlace (sourceField + 1) (omega arith)
+        afterPlaces (sourceField + 1) (omega arith)
+            ∙ afterSource (sourceField + 1) (omega arith)
             ∙ number-same poolSize p₁ e (sourceField + 1) (request .source .cell) s₁ r (omega arith),
-        last destinationField (λ p. omega (arith, p))
+        afterPlaces destinationField (omega arith)
             ∙ later p₃ (destinationField + 1) (request .destination .cell) destinationField (λ p. omega (arith, p))
             ∙ number-same poolSize p₂ e destinationField (request .destination .rank) s₂ r (omega arith),
-        last (destinationField + 1) (λ p. omega (arith, p))
+        afterPlaces (destinationField + 1) (omega arith)
             ∙ number-same poolSize p₃ e (destinationField + 1) (request .destination .cell) s₃ r (omega arith),
-        number-same poolSize p₄ e groupField (request .group) s₄ r (omega arith),
+        later p₅ remoteField (request .remote) groupField (λ p. omega (arith, p))
+            ∙ number-same poolSize p₄ e groupField (request .group) s₄ r (omega arith),
       )
 
 -- The lists of queues are as different as the queues and the parts.
@@ -134,6 +148,14 @@ module _ {A B : Type 0} (bare : A → B) (read read′ : ℕ → B) where
       ∙ ap (λ m. m ++ bare a ∷ []) (contents-same l es h same)
       ∙ ap (λ b. map read′ es ++ b ∷ []) (sym new)
       ∙ sym (map-append read′ es (e ∷ []))
+
+-- The first entry tells whether they are empty.
+pub contents-empty : {A B : Type 0} (bare : A → B) (read : ℕ → B) (l : List A) (es : List ℕ) → map bare l ≡ map read es →
+    All (Row maxItems) es → isEmpty l ≡ eqb (first es) 0
+contents-empty bare read [] [] says rows = refl
+contents-empty bare read [] (e ∷ es) says rows = absurd (cons-ne-nil _ _ (sym says))
+contents-empty bare read (a ∷ l) [] says rows = absurd (cons-ne-nil _ _ says)
+contents-empty bare read (a ∷ l) (e ∷ es) says (row, rows) = sym (ne-eqb e 0 (λ z. omega (arith, z, row .first)))
 
 -- The lists of one part of every queue say what the model's lists say.
 abbrev pub Says : {A B : Type 0} → (A → B) → (ℕ → B) → Part → (ℕ → ℕ → List A) → (ℕ → ℕ → List ℕ) → Type 0
@@ -166,12 +188,13 @@ module _ {A B : Type 0} (bare : A → B) (read read′ : ℕ → B) (part : Part
 pub delivery-made : (pool pool′ : Table) (e value : ℕ) (request : Request) → requestAt pool e ≡ request →
     numberAt poolSize pool′ e valueField ≡ value →
     ((field : ℕ) → field ≢ linkField → field ≢ valueField → numberAt poolSize pool′ e field ≡ numberAt poolSize pool e field) →
-    deliveryAt pool′ e ≡ record { destination = request .destination; value = value; group = request .group }
+    deliveryAt pool′ e ≡ record { remote = request .remote; destination = request .destination; value = value; group = request .group }
 delivery-made pool pool′ e value request h v same =
     rw (
+      same remoteField (λ p. omega (arith, p)) (λ p. omega (arith, p)),
       same destinationField (λ p. omega (arith, p)) (λ p. omega (arith, p)),
       same (destinationField + 1) (λ p. omega (arith, p)) (λ p. omega (arith, p)),
       same groupField (λ p. omega (arith, p)) (λ p. omega (arith, p)),
       v,
     )
-    (ap (λ r. record { destination = r .destination; value = value; group = r .group }) h)
+    (ap (λ r. record { remote = r .remote; destination = r .destination; value = value; group = r .group }) h)

@@ -1,8 +1,13 @@
 -- Lists of entries: what holds of all of them, that none stands twice, and how the links run when a part of a list is exchanged.
-use Prim.Native.Nat.{ℕ}
+use Prim.Native.Nat.{ℕ, _≤_}
 use mathlib.Core.Path.{_≡_, refl, sym, ap, _∙_}
 use mathlib.Core.Logic.{_≢_}
-use mathlib.Core.List.{List, [], _∷_, _++_, map, cons-ne-nil}
+use mathlib.Core.List.{List, [], _∷_, _++_, map}
+use native.Mathlib.Omega.{arith}
+use lib.ListN.{length}
+use Rattle.model.specs.Choice.{numbersFrom}
+use Rattle.model.proofs.Lists.{_∈_, here, there, Distinct, distinct-within, numbersFrom-length, in-numbersFrom}
+use Rattle.memory.specs.Tables.{Row}
 use Rattle.queues.specs.Chains.{first, lastOr, All, Once, Run}
 
 -- What holds of all entries.
@@ -94,20 +99,22 @@ pub map-same : {A : Type 0} (f g : ℕ → A) (es : List ℕ) → All (λ e. f e
 map-same f g [] p = refl
 map-same {A} f g (e ∷ es) (h, p) = rw h (ap {B = List A} (λ l. g e ∷ l) (map-same f g es p))
 
--- A list of the model's with a first entry stands in a list of entries with a first one.
-pub record Headed {A B : Type 0} (bare : A → B) (read : ℕ → B) (a : A) (rest : List A) (es : List ℕ) : Type 0 where
-  pub entry : ℕ
-  pub others : List ℕ
-  pub split : es ≡ entry ∷ others
-  pub here : read entry ≡ bare a
-  pub behind : map bare rest ≡ map read others
-
-pub headed : {A B : Type 0} (bare : A → B) (read : ℕ → B) (a : A) (rest : List A) (es : List ℕ) → map bare (a ∷ rest) ≡ map read es →
-    Headed bare read a rest es
-headed bare read a rest [] h = absurd (cons-ne-nil _ _ h)
-headed bare read a rest (e ∷ es) h = record { entry = e; others = es; split = refl; here = (cc); behind = (cc) }
-
 -- In a list without repeats the later entries are none of the earlier ones.
 pub once-across : (xs ys : List ℕ) → Once (xs ++ ys) → All (λ x. All (λ y. y ≢ x) ys) xs
 once-across [] ys o = tt
 once-across (x ∷ xs) ys (h, o) = (all-right (λ y. y ≢ x) xs ys h, once-across xs ys o)
+
+-- What holds of all entries holds of one that stands there; so without repeats they are distinct, and no more than there are rows.
+all-at : (P : ℕ → Type 0) (es : List ℕ) → All P es → {x : ℕ} → x ∈ es → P x
+all-at P (e ∷ es) (h, all) (here same) = rw same h
+all-at P (e ∷ es) (h, all) (there m) = all-at P es all m
+
+once-distinct : (es : List ℕ) → Once es → Distinct es
+once-distinct [] once = tt
+once-distinct (e ∷ es) (apart, once) = ((λ m. all-at (λ x. x ≢ e) es apart m refl), once-distinct es once)
+
+pub once-few : (rows : ℕ) (es : List ℕ) → Once es → All (Row rows) es → length es ≤ rows
+once-few rows es once named =
+    let within : (g : ℕ) → g ∈ es → g ∈ numbersFrom 1 rows =
+    λ g m. let row = all-at (Row rows) es named m in in-numbersFrom 1 rows g (row .first) (omega (arith, row .last)) in
+    omega (arith, distinct-within es (numbersFrom 1 rows) (once-distinct es once) within, numbersFrom-length 1 rows)

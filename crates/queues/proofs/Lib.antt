@@ -5,6 +5,6 @@ pub mod Changes
 pub mod Chains
 pub mod Chained
 pub mod Contents
-pub mod Heads
+pub mod Searches
 pub mod Moves
 pub mod Queued

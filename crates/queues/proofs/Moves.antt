@@ -15,7 +15,7 @@ use Rattle.queues.specs.Entries.{poolSize, valueField, linkField, reques
 use Rattle.queues.specs.Lists.{Queues, tables, listsOfRank, listOf}
 use Rattle.queues.specs.Lists.{fieldOf, withField, linked, unlinked}
 use Rattle.queues.specs.Chains.{first, lastOr, All, Standing, Chained}
-use Rattle.queues.specs.Transfers.{Room, appended, fetchedEntry}
+use Rattle.queues.specs.Transfers.{Room, appended, fetched, delivered}
 use Rattle.queues.specs.Queued.{bareRequest, bareDelivery, sent, Queued}
 use Rattle.queues.proofs.Calls.{there-room}
 use Rattle.queues.proofs.EntryLists.{all-append, all-but, all-middle, all-map, all-of}
@@ -96,7 +96,7 @@ module _ {most : ℕ} {t : Queues} {requests : ℕ → ℕ → List (Asked Origi
     issued-middle : e ≤ most
     issued-middle = all-middle (λ x. x ≤ most) xs e ys (subst (All (λ x. x ≤ most)) split (held .issued rank (listOf queue part)))
 
-    pub row-middle : Row maxItems e
+    row-middle : Row maxItems e
     row-middle =
         all-middle (Standing (held .owner) rank (listOf queue part)) xs e ys
         (subst (All (Standing (held .owner) rank (listOf queue part))) split (held .chained .standing rank (listOf queue part))) .named
@@ -105,7 +105,8 @@ module _ {most : ℕ} {t : Queues} {requests : ℕ → ℕ → List (Asked Origi
   pub deliver-entry : (rank queue : ℕ) → Rank rank → queue < maxQueues → (xs : List ℕ) (e : ℕ) (ys : List ℕ) →
       held .entries rank (listOf queue Deliveries) ≡ xs ++ e ∷ ys → (left : List (Sent Origin)) →
       map bareDelivery left ≡ map (deliveryAt (t .pool)) (xs ++ ys) →
-      Queued most (unlinked t rank (listOf queue Deliveries) (lastOr 0 xs) e) requests (put₂ deliveries rank queue left)
+      Queued most (delivered t rank queue (record { previous = lastOr 0 xs; entry = e })) requests (put₂ deliveries rank queue left)
+  unfolding delivered
   deliver-entry rank queue r q xs e ys split left says =
       let list : ℕ = listOf queue Deliveries in
       let changed = unlinked-changed t (held .chained .poolShape) (held .chained .endsShape) rank list (lastOr 0 xs) e in
@@ -135,9 +136,9 @@ module _ {most : ℕ} {t : Queues} {requests : ℕ → ℕ → List (Asked Origi
   pub fetch-entry : (rank queue value : ℕ) → Rank rank → queue < maxQueues → (xs : List ℕ) (e : ℕ) (ys : List ℕ) →
       held .entries rank (listOf queue Requests) ≡ xs ++ e ∷ ys → (a : Asked Origin) → requestAt (t .pool) e ≡ bareRequest a →
       (left : List (Asked Origin)) → map bareRequest left ≡ map (requestAt (t .pool)) (xs ++ ys) →
-      Queued most (fetchedEntry t rank queue (lastOr 0 xs) e value) (put₂ requests rank queue left)
+      Queued most (fetched t rank queue (record { previous = lastOr 0 xs; entry = e }) value) (put₂ requests rank queue left)
       (put₂ deliveries rank queue (deliveries rank queue ++ sent a value ∷ []))
-  unfolding fetchedEntry
+  unfolding fetched
   fetch-entry rank queue value r q xs e ys split a here left says =
       let from : ℕ = listOf queue Requests in
       let to : ℕ = listOf queue Deliveries in

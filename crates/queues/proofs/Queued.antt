@@ -1,34 +1,35 @@
 -- The laws of the queues: what each operation does to the model's lists, and what is read of them. Proofs above this crate cite these, and never look
 -- into a table.
 use Prim.Native.Nat.{ℕ, _+_, _≤_, _<_}
-use mathlib.Core.Path.{_≡_, refl, sym, ap, _∙_}
-use mathlib.Core.Bool.{false, _&&_}
-use mathlib.Core.List.{List, [], _∷_, _++_, map}
-use mathlib.Core.Option.{some, none}
+use mathlib.Core.Path.{_≡_, refl, ap}
+use mathlib.Core.Bool.{Bool, _&&_}
+use mathlib.Core.List.{List, [], _∷_, _++_}
 use native.Mathlib.Omega.{arith}
 use lib.Dec.{eqb}
-use borrow.Author.Tests.{ne-eqb}
+use Rattle.model.specs.declared.Item.{Item}
 use Rattle.model.specs.Limits.{maxRanks, maxItems, maxQueues}
 use Rattle.model.specs.Choice.{numbersFrom}
 use Rattle.model.specs.Programs.{Program}
 use Rattle.model.specs.Machine.{State, Request as Asked, Delivery as Sent, put₂}
-use Rattle.model.specs.Replay.{Origin, oldest, every, isEmpty, quiet}
-use Rattle.memory.specs.Tables.{Row, Rank, zeros}
+use Rattle.model.specs.Replay.{Origin, isFor, requestFor, deliveryFor, every, isEmpty, quiet}
+use Rattle.memory.specs.Tables.{Row, Rank, numberAt, zeros}
 use Rattle.memory.proofs.Stores.{zeros-shape, zeros-number}
-use Rattle.queues.specs.declared.Oldest.the-variants.{Entry, Empty}
+use Rattle.queues.specs.declared.Request.{Request}
+use Rattle.queues.specs.declared.Delivery.{Delivery}
+use Rattle.queues.specs.declared.Oldest.{Oldest}
 use Rattle.queues.specs.declared.Part.{Part}
 use Rattle.queues.specs.declared.Part.the-variants.{Requests, Deliveries}
-use Rattle.queues.specs.Entries.{poolSize, requestAt, deliveryAt}
+use Rattle.queues.specs.Entries.{poolSize, remoteField, requestAt, deliveryAt}
 use Rattle.queues.specs.Lists.{Queues, tables, endsSize, listOf, headEnd, tailEnd, nextOf, oldestIn}
 use Rattle.queues.specs.Chains.{first, All, Standing}
 use Rattle.queues.specs.Transfers.{Room, appended, fetched, delivered}
 use Rattle.queues.specs.Endings.{queueEmpty, rankEmpty, allEmpty}
 use Rattle.queues.specs.Queued.{bareRequest, bareDelivery, sent, Queued}
 use Rattle.queues.proofs.Every.{every-same}
-use Rattle.queues.proofs.EntryLists.{all-map, Headed, headed}
-use Rattle.queues.proofs.Contents.{Says}
-use Rattle.queues.proofs.Heads.{Waiting, oldest-cons, none-waits, one-waits, empty-told, answer-empty, answer-entry}
-use Rattle.queues.proofs.Moves.{list-held, row-middle, append-entry, fetch-entry, deliver-entry}
+use Rattle.queues.proofs.EntryLists.{all-map, once-few}
+use Rattle.queues.proofs.Contents.{Says, contents-empty}
+use Rattle.queues.proofs.Searches.{Waiting, positionOf, Tells, search-tells}
+use Rattle.queues.proofs.Moves.{list-held, append-entry, fetch-entry, deliver-entry}
 
 -- Cleared tables hold empty queues.
 pub cleared : Queued 0 (tables (zeros poolSize) (zeros endsSize)) (λ rank queue. []) (λ rank queue. [])
@@ -87,71 +88,62 @@ module _ {most : ℕ} {t : Queues} {requests : ℕ → ℕ → List (Asked Origi
         all-map (Standing (held .owner) rank (listOf queue part)) (Row maxItems) (λ e s. s .named) es
         (held .chained .standing rank (listOf queue part))
 
-    part-none : oldestIn (t .ends) rank queue part ≡ Empty → oldest (model rank queue) ≡ none
-    part-none h = none-waits bare read _ (model rank queue) es (says rank queue r q) head-told rows (answer-empty (t .ends) rank queue part h)
-
-    part-waits : (e : ℕ) → oldestIn (t .ends) rank queue part ≡ Entry e → Waiting bare read (model rank queue) e
-    part-waits e h =
-        let (same, some-head) = answer-entry (t .ends) rank queue part e h in
-        rw same at (one-waits bare read (nextOf (t .ends) rank queue part) (model rank queue) es (says rank queue r q) head-told some-head)
+    part-told : (among : A → Bool) (named : ℕ) →
+        ((e : ℕ) (a : A) → read e ≡ bare a → isFor named (numberAt poolSize (t .pool) e remoteField) ≡ among a) →
+        Tells bare read among (model rank queue) 0 es (oldestIn t rank queue part named)
+    part-told among named same =
+        rw head-told
+        (search-tells bare read among (t .pool) named same (model rank queue) 0 maxItems es (says rank queue r q)
+        (held .chained .chains rank (listOf queue part) r (list-held part queue q) .run) rows
+        (once-few maxItems es (held .chained .once rank (listOf queue part)) rows))
 
     part-empty : isEmpty (model rank queue) ≡ eqb (nextOf (t .ends) rank queue part) 0
-    part-empty = empty-told bare read (nextOf (t .ends) rank queue part) (model rank queue) es (says rank queue r q) head-told rows
+    part-empty = rw head-told (contents-empty bare read (model rank queue) es (says rank queue r q) rows)
 
-    module _ (a : A) (rest : List A) (h : oldest (model rank queue) ≡ some (a, rest)) where
-      part-head : Headed bare read a rest es
-      part-head =
-          headed bare read a rest es (ap (map bare) (sym (oldest-cons (model rank queue) a rest h)) ∙ says rank queue r q)
+  -- A pop. Of those that it chooses among, what it finds is the model's oldest request or delivery.
+  module _ (i : Item) (r : Rank (i .rank)) (q : i .queue < maxQueues) where
+    abbrev requestEntries : List ℕ
+    requestEntries = held .entries (i .rank) (listOf (i .queue) Requests)
 
-      part-next : nextOf (t .ends) rank queue part ≡ part-head .entry
-      part-next = head-told ∙ ap first (part-head .split)
+    abbrev deliveryEntries : List ℕ
+    deliveryEntries = held .entries (i .rank) (listOf (i .queue) Deliveries)
 
-      part-some : eqb (part-head .entry) 0 ≡ false
-      part-some =
-          let row = row-middle held rank queue r q part [] (part-head .entry) (part-head .others) (part-head .split) in
-          ne-eqb (part-head .entry) 0 (λ z. omega (arith, z, row .first))
+    abbrev pub RequestTold : Oldest → Type 0
+    RequestTold = Tells bareRequest (requestAt (t .pool)) (requestFor i) (requests (i .rank) (i .queue)) 0 requestEntries
+
+    abbrev pub RequestWaits : Type 0
+    RequestWaits = Waiting bareRequest (requestAt (t .pool)) (requestFor i) (requests (i .rank) (i .queue)) requestEntries
+
+    abbrev pub DeliveryTold : Oldest → Type 0
+    DeliveryTold = Tells bareDelivery (deliveryAt (t .pool)) (deliveryFor i) (deliveries (i .rank) (i .queue)) 0 deliveryEntries
+
+    abbrev pub DeliveryWaits : Type 0
+    DeliveryWaits = Waiting bareDelivery (deliveryAt (t .pool)) (deliveryFor i) (deliveries (i .rank) (i .queue)) deliveryEntries
+
+    pub request-told : RequestTold (oldestIn t (i .rank) (i .queue) Requests (i .remote))
+    request-told =
+        part-told bareRequest (requestAt (t .pool)) Requests requests (held .requested) (i .rank) (i .queue) r q (requestFor i) (i .remote)
+        (λ e a h. ap (λ (x : Request). isFor (i .remote) (x .remote)) h)
+
+    pub delivery-told : DeliveryTold (oldestIn t (i .rank) (i .queue) Deliveries (i .remote))
+    delivery-told =
+        part-told bareDelivery (deliveryAt (t .pool)) Deliveries deliveries (held .fetched) (i .rank) (i .queue) r q (deliveryFor i) (i .remote)
+        (λ e b h. ap (λ (x : Delivery). isFor (i .remote) (x .remote)) h)
+
+    -- "popa takes the head request of the named queue", or the oldest for the rank that it names, ".. and appends destination and value to that
+    -- queue's deliveries."
+    pub fetch-queued : (value : ℕ) (w : RequestWaits) →
+        Queued most (fetched t (i .rank) (i .queue) (positionOf 0 w) value) (put₂ requests (i .rank) (i .queue) (w .rest))
+        (put₂ deliveries (i .rank) (i .queue) (deliveries (i .rank) (i .queue) ++ sent (w .taken) value ∷ []))
+    fetch-queued value w =
+        fetch-entry held (i .rank) (i .queue) value r q (w .older) (w .entry) (w .newer) (w .split) (w .taken) (w .reads) (w .rest) (w .leaves)
+
+    -- "popb takes the head delivery and writes it", or the oldest for the rank that it names.
+    pub deliver-queued : (w : DeliveryWaits) →
+        Queued most (delivered t (i .rank) (i .queue) (positionOf 0 w)) requests (put₂ deliveries (i .rank) (i .queue) (w .rest))
+    deliver-queued w = deliver-entry held (i .rank) (i .queue) r q (w .older) (w .entry) (w .newer) (w .split) (w .rest) (w .leaves)
 
   module _ (rank queue : ℕ) (r : Rank rank) (q : queue < maxQueues) where
-    -- What the code finds is the model's oldest request, and its oldest delivery.
-    pub request-none : oldestIn (t .ends) rank queue Requests ≡ Empty → oldest (requests rank queue) ≡ none
-    request-none = part-none bareRequest (requestAt (t .pool)) Requests requests (held .requested) rank queue r q
-
-    pub delivery-none : oldestIn (t .ends) rank queue Deliveries ≡ Empty → oldest (deliveries rank queue) ≡ none
-    delivery-none = part-none bareDelivery (deliveryAt (t .pool)) Deliveries deliveries (held .fetched) rank queue r q
-
-    pub request-waits : (e : ℕ) → oldestIn (t .ends) rank queue Requests ≡ Entry e →
-        Waiting bareRequest (requestAt (t .pool)) (requests rank queue) e
-    request-waits = part-waits bareRequest (requestAt (t .pool)) Requests requests (held .requested) rank queue r q
-
-    pub delivery-waits : (e : ℕ) → oldestIn (t .ends) rank queue Deliveries ≡ Entry e →
-        Waiting bareDelivery (deliveryAt (t .pool)) (deliveries rank queue) e
-    delivery-waits = part-waits bareDelivery (deliveryAt (t .pool)) Deliveries deliveries (held .fetched) rank queue r q
-
-    -- "popa takes the head request of the named queue .. and appends destination and value to that queue's deliveries."
-    pub fetch-queued : (value : ℕ) (a : Asked Origin) (rest : List (Asked Origin)) → oldest (requests rank queue) ≡ some (a, rest) →
-        Queued most (fetched t rank queue value) (put₂ requests rank queue rest)
-        (put₂ deliveries rank queue (deliveries rank queue ++ sent a value ∷ []))
-    unfolding fetched
-    fetch-queued value a rest h =
-        let one = part-head bareRequest (requestAt (t .pool)) Requests requests (held .requested) rank queue r q a rest h in
-        rw (
-          part-next bareRequest (requestAt (t .pool)) Requests requests (held .requested) rank queue r q a rest h,
-          part-some bareRequest (requestAt (t .pool)) Requests requests (held .requested) rank queue r q a rest h,
-        )
-        (fetch-entry held rank queue value r q [] (one .entry) (one .others) (one .split) a (one .here) rest (one .behind))
-
-    -- "popb takes the head delivery and writes it."
-    pub deliver-queued : (b : Sent Origin) (rest : List (Sent Origin)) → oldest (deliveries rank queue) ≡ some (b, rest) →
-        Queued most (delivered t rank queue) requests (put₂ deliveries rank queue rest)
-    unfolding delivered
-    deliver-queued b rest h =
-        let one = part-head bareDelivery (deliveryAt (t .pool)) Deliveries deliveries (held .fetched) rank queue r q b rest h in
-        rw (
-          part-next bareDelivery (deliveryAt (t .pool)) Deliveries deliveries (held .fetched) rank queue r q b rest h,
-          part-some bareDelivery (deliveryAt (t .pool)) Deliveries deliveries (held .fetched) rank queue r q b rest h,
-        )
-        (deliver-entry held rank queue r q [] (one .entry) (one .others) (one .split) rest (one .behind))
-
     -- A queue is empty exactly if it has neither head.
     queue-told : (isEmpty (requests rank queue) && isEmpty (deliveries rank queue)) ≡ queueEmpty (t .ends) rank queue
     queue-told =

@@ -20,11 +20,14 @@ valueField = 4
 abbrev pub groupField : ℕ
 groupField = 5
 
+abbrev pub remoteField : ℕ
+remoteField = 6
+
 abbrev pub linkField : ℕ
-linkField = 6
+linkField = 7
 
 abbrev pub poolSize : Size
-poolSize = record { rows = maxItems; width = 7 }
+poolSize = record { rows = maxItems; width = 8 }
 
 abbrev pub addressAt : Table → (entry field : ℕ) → Address
 addressAt pool entry field = address (numberAt poolSize pool entry field) (numberAt poolSize pool entry (field + 1))
@@ -33,6 +36,7 @@ addressAt pool entry field = address (numberAt poolSize pool entry field) (numbe
 abbrev pub requestAt : Table → (entry : ℕ) → Request
 requestAt pool entry =
     record {
+      remote = numberAt poolSize pool entry remoteField;
       source = addressAt pool entry sourceField;
       destination = addressAt pool entry destinationField;
       group = numberAt poolSize pool entry groupField;
@@ -41,6 +45,7 @@ requestAt pool entry =
 abbrev pub deliveryAt : Table → (entry : ℕ) → Delivery
 deliveryAt pool entry =
     record {
+      remote = numberAt poolSize pool entry remoteField;
       destination = addressAt pool entry destinationField;
       value = numberAt poolSize pool entry valueField;
       group = numberAt poolSize pool entry groupField;
@@ -54,7 +59,7 @@ addressStored pool entry field place =
 abbrev pub requestStored : Table → (entry : ℕ) → Request → Table
 requestStored pool entry request =
     stored poolSize
+    (stored poolSize
     (addressStored (addressStored pool entry sourceField (request .source)) entry destinationField (request .destination))
-    entry
-    groupField
-    (request .group)
+    entry groupField (request .group))
+    entry remoteField (request .remote)

@@ -1,14 +1,15 @@
 -- Lists through the pool: where their ends stand, and what link and unlink make of the tables.
-use Prim.Native.Nat.{ℕ, _+_, _*_}
+use Prim.Native.Nat.{ℕ, zero, suc, _+_, _*_}
 use lib.Dec.{eqb}
-use Rattle.model.specs.Limits.{maxRanks, maxQueues}
+use Rattle.model.specs.Limits.{maxRanks, maxItems, maxQueues}
 use Rattle.model.specs.Choice.{when}
+use Rattle.model.specs.Replay.{isFor}
 use Rattle.memory.specs.Tables.{Table, Size, numberAt, stored}
 use Rattle.queues.specs.declared.Part.{Part}
 use Rattle.queues.specs.declared.Part.the-variants.{Requests, Deliveries}
 use Rattle.queues.specs.declared.Oldest.{Oldest}
 use Rattle.queues.specs.declared.Oldest.the-variants.{Entry, Empty}
-use Rattle.queues.specs.Entries.{poolSize, linkField}
+use Rattle.queues.specs.Entries.{poolSize, remoteField, linkField}
 
 -- The lists of a rank are numbered: each queue has two.
 abbrev pub listsOfRank : ℕ
@@ -53,12 +54,24 @@ withField t entry field value = tables (stored poolSize (t .pool) entry field va
 abbrev pub withEnd : Queues → (rank end entry : ℕ) → Queues
 withEnd t rank end entry = tables (t .pool) (stored endsSize (t .ends) rank end entry)
 
--- The entry that a pop takes, or 0. "Each such queue is first in, first out over all remote ranks": it is the head.
+-- The entry at the head of a queue's list, or 0.
 abbrev pub nextOf : (ends : Table) → (rank queue : ℕ) → Part → ℕ
 nextOf ends rank queue part = numberAt endsSize ends rank (headEnd (listOf queue part))
 
-unfoldable pub oldestIn : (ends : Table) → (rank queue : ℕ) → Part → Oldest
-oldestIn ends rank queue part = when (eqb (nextOf ends rank queue part) 0) (λ _. Empty) (λ _. Entry (nextOf ends rank queue part))
+-- The first entry for the named rank, from an entry on, where `previous` is the one before it: "takes the oldest entry for that rank". After so many
+-- entries the walk ends, since on tables that hold no lists the links may run in a circle.
+unfoldable pub searched : Table → (named left previous entry : ℕ) → Oldest
+unfolding isFor
+searched pool named zero previous entry = Empty
+searched pool named (suc left) previous entry =
+    when (eqb entry 0) (λ _. Empty) (λ _.
+    when (isFor named (numberAt poolSize pool entry remoteField))
+    (λ _. Entry (record { previous = previous; entry = entry }))
+    (λ _. searched pool named left entry (numberAt poolSize pool entry linkField)))
+
+-- The entry that a pop takes, by the remote rank that it names, or 0 for none.
+abbrev pub oldestIn : Queues → (rank queue : ℕ) → Part → (named : ℕ) → Oldest
+oldestIn t rank queue part named = searched (t .pool) named maxItems 0 (nextOf (t .ends) rank queue part)
 
 -- From now on `next` follows `previous`, or is the head where that is none.
 unfoldable pub nextSet : Queues → (rank list previous next : ℕ) → Queues

@@ -15,14 +15,14 @@ use Rattle.queues.specs.Chains.{All, Chained}
 
 -- The model's entries as the code has them: the group is kept of the command that asked, and not its place.
 abbrev pub bareRequest : Asked Origin → Request
-bareRequest a = record { source = a .source; destination = a .destination; group = a .mark .group }
+bareRequest a = record { remote = a .remote; source = a .source; destination = a .destination; group = a .mark .group }
 
 abbrev pub bareDelivery : Sent Origin → Delivery
-bareDelivery b = record { destination = b .destination; value = b .value; group = b .mark .group }
+bareDelivery b = record { remote = b .remote; destination = b .destination; value = b .value; group = b .mark .group }
 
 -- "reads the source cell now, and appends destination and value to that queue's deliveries": the delivery of a request.
 abbrev pub sent : Asked Origin → (value : ℕ) → Sent Origin
-sent a value = record { destination = a .destination; value = value; mark = a .mark }
+sent a value = record { remote = a .remote; destination = a .destination; value = value; mark = a .mark }
 
 -- The tables hold these requests and deliveries, and every entry was issued by one of the first `most` items.
 pub record Queued

@@ -4,6 +4,7 @@ use crate::Delivery;
 use crate::ENTRY;
 use crate::GROUP;
 use crate::Pool;
+use crate::REMOTE;
 use crate::Request;
 use crate::SOURCE;
 use crate::VALUE;
@@ -62,6 +63,7 @@ pub fn request_at(pool: &Pool, entry: u16) -> Request
     ensures { λ r. ⌜ r ≡ requestAt (now (pool .entry)) entry ⌝ }
 {
     Request {
+        remote: field_at(pool, entry, REMOTE),
         source: address_at(pool, entry, SOURCE),
         destination: address_at(pool, entry, DESTINATION),
         group: field_at(pool, entry, GROUP),
@@ -72,6 +74,7 @@ pub fn delivery_at(pool: &Pool, entry: u16) -> Delivery
     ensures { λ r. ⌜ r ≡ deliveryAt (now (pool .entry)) entry ⌝ }
 {
     Delivery {
+        remote: field_at(pool, entry, REMOTE),
         destination: address_at(pool, entry, DESTINATION),
         value: field_at(pool, entry, VALUE),
         group: field_at(pool, entry, GROUP),
@@ -84,4 +87,5 @@ pub fn set_request(pool: &mut Pool, entry: u16, request: Request)
     set_address(pool, entry, SOURCE, request.source);
     set_address(pool, entry, DESTINATION, request.destination);
     set_field(pool, entry, GROUP, request.group);
+    set_field(pool, entry, REMOTE, request.remote);
 }

@@ -6,13 +6,18 @@ use crate::LINK;
 use crate::Oldest;
 use crate::Part;
 use crate::Pool;
+use crate::Position;
+use crate::REMOTE;
 use crate::entries::field_at;
 use crate::entries::set_field;
 use memory::row_of;
+use model::ITEMS;
 use model::RANKS;
 ghost use mathlib.Core.Path.{_≡_};
+ghost use Rattle.model.specs.Limits.{maxItems};
+ghost use Rattle.model.specs.Replay.{isFor};
 ghost use Rattle.memory.specs.Tables.{numberAt, stored};
-ghost use Rattle.queues.specs.Lists.{endsSize, listOf, headEnd, tailEnd, nextOf, oldestIn, tables, nextSet, linked, unlinked};
+ghost use Rattle.queues.specs.Lists.{endsSize, listOf, headEnd, tailEnd, nextOf, searched, oldestIn, tables, nextSet, linked, unlinked};
 
 // The number of a queue's list of requests, and of its deliveries.
 pub fn list_of(queue: u16, part: Part) -> u32
@@ -73,21 +78,48 @@ fn set_tail(ends: &mut Ends, rank: u16, list: u32, entry: u16)
     set_end(ends, rank, list as usize * 2 + 1, entry);
 }
 
-// The entry that a pop takes, or 0. "Each such queue is first in, first out over all remote ranks": it is the head.
+// The entry at the head of a queue's list, or 0. It was appended first of all that wait there.
 pub fn next_of(ends: &Ends, rank: u16, queue: u16, part: Part) -> u16
     ensures { λ r. ⌜ r ≡ nextOf (now (ends .entry)) rank queue part ⌝ }
 {
     head_of(ends, rank, list_of(queue, part))
 }
 
-pub fn oldest(ends: &Ends, rank: u16, queue: u16, part: Part) -> Oldest
-    ensures { λ r. ⌜ r ≡ oldestIn (now (ends .entry)) rank queue part ⌝ }
+// Whether a pop chooses among the entries with this remote rank: those for the rank that it names, or all where it names none, 0.
+fn is_for(named: u16, remote: u16) -> bool
+    ensures { λ r. ⌜ r ≡ isFor named remote ⌝ }
 {
-    let entry = next_of(ends, rank, queue, part);
-    if entry == 0 {
-        return Oldest::Empty;
+    if named == 0 { true } else { named == remote }
+}
+
+// The first entry for the named rank, from the head of a list on: "takes the oldest entry for that rank". Where none is named that is the head. No
+// list has more entries than there are items, so a walk that has gone so far finds none.
+fn search(pool: &Pool, named: u16, head: u16) -> Oldest
+    ensures { λ r. ⌜ r ≡ searched (now (pool .entry)) named maxItems 0 head ⌝ }
+{
+    let mut left = ITEMS;
+    let mut previous = 0;
+    let mut entry = head;
+    while left > 0 {
+        if entry == 0 {
+            return Oldest::Empty;
+        }
+        let remote = field_at(pool, entry, REMOTE);
+        if is_for(named, remote) {
+            return Oldest::Entry(Position { previous, entry });
+        }
+        previous = entry;
+        entry = field_at(pool, entry, LINK);
+        left -= 1;
     }
-    Oldest::Entry(entry)
+    Oldest::Empty
+}
+
+// The entry that a pop takes, by the remote rank that it names, or 0 for none.
+pub fn oldest(pool: &Pool, ends: &Ends, rank: u16, queue: u16, part: Part, named: u16) -> Oldest
+    ensures { λ r. ⌜ r ≡ oldestIn (tables (now (pool .entry)) (now (ends .entry))) rank queue part named ⌝ }
+{
+    search(pool, named, next_of(ends, rank, queue, part))
 }
 
 // From now on `next` follows `previous`, or is the head where that is none.

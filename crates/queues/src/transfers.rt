@@ -2,13 +2,13 @@
 use crate::Ends;
 use crate::Part;
 use crate::Pool;
+use crate::Position;
 use crate::Request;
 use crate::VALUE;
 use crate::entries::set_field;
 use crate::entries::set_request;
 use crate::lists::link;
 use crate::lists::list_of;
-use crate::lists::next_of;
 use crate::lists::unlink;
 use memory::row_of;
 use model::ITEMS;
@@ -16,7 +16,7 @@ use model::QUEUES;
 use model::RANKS;
 ghost use mathlib.Core.Path.{_≡_};
 ghost use Rattle.queues.specs.Lists.{tables};
-ghost use Rattle.queues.specs.Transfers.{hasRoom, appended, fetchedEntry, fetched, delivered};
+ghost use Rattle.queues.specs.Transfers.{hasRoom, appended, fetched, delivered};
 
 // Whether there is such a queue, and an entry for such an item.
 fn has_room(rank: u16, queue: u16, at: usize) -> bool
@@ -44,19 +44,20 @@ pub fn append(pool: &mut Pool, ends: &mut Ends, rank: u16, queue: u16, at: usize
     }
 }
 
-// An entry leaves the requests of a queue, where `previous` is the one before it, and joins the deliveries with the value that was read.
-fn fetch_entry(
+// The request at this position is fetched: it leaves the requests of its queue, and is the newest of its deliveries then, with the value that was read.
+pub fn fetch(
     pool: &mut Pool,
     ends: &mut Ends,
     rank: u16,
     queue: u16,
-    previous: u16,
-    entry: u16,
+    position: Position,
     value: u16,
 )
     ensures { λ r. ⌜ tables (now (pool .exit)) (now (ends .exit)) ≡
-        fetchedEntry (tables (now (pool .entry)) (now (ends .entry))) rank queue previous entry value ⌝ }
+        fetched (tables (now (pool .entry)) (now (ends .entry))) rank queue position value ⌝ }
 {
+    let previous = position.previous;
+    let entry = position.entry;
     set_field(pool, entry, VALUE, value);
     unlink(
         pool,
@@ -69,24 +70,17 @@ fn fetch_entry(
     link(pool, ends, rank, list_of(queue, Part::Deliveries), entry);
 }
 
-// The oldest request of a queue is fetched: it is the newest delivery then.
-pub fn fetch(pool: &mut Pool, ends: &mut Ends, rank: u16, queue: u16, value: u16)
+// The delivery at this position is done, and leaves the deliveries of its queue.
+pub fn deliver(pool: &mut Pool, ends: &mut Ends, rank: u16, queue: u16, position: Position)
     ensures { λ r. ⌜ tables (now (pool .exit)) (now (ends .exit)) ≡
-        fetched (tables (now (pool .entry)) (now (ends .entry))) rank queue value ⌝ }
+        delivered (tables (now (pool .entry)) (now (ends .entry))) rank queue position ⌝ }
 {
-    let entry = next_of(ends, rank, queue, Part::Requests);
-    if entry != 0 {
-        fetch_entry(pool, ends, rank, queue, 0, entry, value);
-    }
-}
-
-// The oldest delivery of a queue is done.
-pub fn deliver(pool: &mut Pool, ends: &mut Ends, rank: u16, queue: u16)
-    ensures { λ r. ⌜ tables (now (pool .exit)) (now (ends .exit)) ≡
-        delivered (tables (now (pool .entry)) (now (ends .entry))) rank queue ⌝ }
-{
-    let entry = next_of(ends, rank, queue, Part::Deliveries);
-    if entry != 0 {
-        unlink(pool, ends, rank, list_of(queue, Part::Deliveries), 0, entry);
-    }
+    unlink(
+        pool,
+        ends,
+        rank,
+        list_of(queue, Part::Deliveries),
+        position.previous,
+        position.entry,
+    );
 }

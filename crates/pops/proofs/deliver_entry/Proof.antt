@@ -9,7 +9,7 @@ use Rattle.pops.proofs.deliver_entry.Tie as tie
 returns : tie.Need-returns
 returns c =
     let atDelivery = c .before .before .before in
-    λ control registers. rw (← atDelivery .delivery-at .ensures) (delivery-differs _ _ _ _
+    λ control registers. rw (← atDelivery .delivery-at .ensures) (delivery-differs _ _ _ _ _
     (sym (c .before .agrees-with .ensures) ∙ not-true _ (c .if1 .taken)))
 
 returns-2 : tie.Need-returns-2
@@ -19,7 +19,7 @@ returns-2 c =
     let atProgress = atNumber .before in
     let atElse1 = atProgress .before in
     let atDelivery = atElse1 .before .before .before in
-    λ control registers. rw (← atDelivery .delivery-at .ensures) (delivery-taken _ _ _ _
+    λ control registers. rw (← atDelivery .delivery-at .ensures) (delivery-taken _ _ _ _ _
     (sym (atElse1 .before .agrees-with .ensures) ∙ not-false _ (atElse1 .if1 .left))
     (atProgress .pop-progress .ensures)
     (atNumber .access-number .ensures)

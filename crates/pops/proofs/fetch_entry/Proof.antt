@@ -10,7 +10,7 @@ returns : tie.Need-returns
 returns c =
     let atCell = c .before .before in
     let atRequest = atCell .before .before in
-    λ control registers. rw (← atRequest .request-at .ensures) (fetch-differs _ _ _ _ (atCell .cell-at .ensures)
+    λ control registers. rw (← atRequest .request-at .ensures) (fetch-differs _ _ _ _ _ (atCell .cell-at .ensures)
     (sym (c .before .agrees-with .ensures) ∙ not-true _ (c .if1 .taken)))
 
 returns-2 : tie.Need-returns-2
@@ -20,7 +20,7 @@ returns-2 c =
     let atElse1 = atProgress .before in
     let atCell = atElse1 .before .before in
     let atRequest = atCell .before .before in
-    λ control registers. rw (← atRequest .request-at .ensures) (fetch-taken _ _ _ _ (atCell .cell-at .ensures)
+    λ control registers. rw (← atRequest .request-at .ensures) (fetch-taken _ _ _ _ _ (atCell .cell-at .ensures)
     (sym (atElse1 .before .agrees-with .ensures) ∙ not-false _ (atElse1 .if1 .left))
     (atProgress .pop-progress .ensures)
     (atNumber .access-number .ensures)

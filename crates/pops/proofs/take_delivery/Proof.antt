@@ -9,9 +9,9 @@ returns : tie.Need-returns
 returns c =
     let atArgs = c .before .before .before in
     let atEntry = atArgs .before in
-    let atHead = atEntry .before in
+    let atFound = atEntry .before in
     λ control registers.
-    rw (sym (atHead .before .before .oldest .ensures) ∙ atHead .head .given .1) (c .deliver-entry .ensures control registers)
+    rw (sym (atFound .before .before .oldest .ensures) ∙ atFound .found .given .1) (c .deliver-entry .ensures control registers)
 
 returns-2 : tie.Need-returns-2
 returns-2 c = λ control registers. does-refused (rw (sym (c .before .before .oldest .ensures) ∙ c .enum-told .given .1))

@@ -8,9 +8,9 @@ use Rattle.pops.proofs.take_fetch.Tie as tie
 returns : tie.Need-returns
 returns c =
     let atEntry = c .before .before .before in
-    let atHead = atEntry .before in
+    let atFound = atEntry .before in
     λ control registers.
-    rw (sym (atHead .before .before .oldest .ensures) ∙ atHead .head .given .1) (c .fetch-entry .ensures control registers)
+    rw (sym (atFound .before .before .oldest .ensures) ∙ atFound .found .given .1) (c .fetch-entry .ensures control registers)
 
 returns-2 : tie.Need-returns-2
 returns-2 c = λ control registers. does-refused (rw (sym (c .before .before .oldest .ensures) ∙ c .enum-told .given .1))

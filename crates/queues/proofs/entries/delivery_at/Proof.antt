@@ -6,12 +6,14 @@ use Rattle.queues.proofs.entries.delivery_at.Tie as tie
 returns : tie.Need-returns
 returns c =
     let atValue = c .before in
-    rw (atValue .before .address-at .ensures, atValue .field-at .ensures, c .field-at2 .ensures)
+    let atDestination = atValue .before in
+    rw (atDestination .before .field-at .ensures, atDestination .address-at .ensures, atValue .field-at2 .ensures, c .field-at3 .ensures)
 
 pub delivery-at-spec : {M : Type 1} → statement M
 delivery-at-spec =
     tie.close
     (tie.spec
+    (λ c κs. search needs)
     (λ c κs. search needs)
     (λ c κs. search needs)
     (λ c κs. search needs)

@@ -6,12 +6,14 @@ use Rattle.queues.proofs.entries.request_at.Tie as tie
 returns : tie.Need-returns
 returns c =
     let atDestination = c .before in
-    rw (atDestination .before .address-at .ensures, atDestination .address-at2 .ensures, c .field-at .ensures)
+    let atSource = atDestination .before in
+    rw (atSource .before .field-at .ensures, atSource .address-at .ensures, atDestination .address-at2 .ensures, c .field-at2 .ensures)
 
 pub request-at-spec : {M : Type 1} → statement M
 request-at-spec =
     tie.close
     (tie.spec
+    (λ c κs. search needs)
     (λ c κs. search needs)
     (λ c κs. search needs)
     (λ c κs. search needs)

@@ -1,19 +1,17 @@
--- `queues::transfers::fetch` meets its contract: the test is the definition's.
-use borrow.Author.Tests.{eq-eqb, ne-eqb}
-use Rattle.queues.specs.Transfers.{fetched}
+-- `queues::transfers::fetch` meets its contract: its calls are the definition's.
+use Rattle.queues.proofs.Calls.{fetch-made}
 use borrow.Author.Needs.{needs}
 use Rattle.queues.proofs.transfers.fetch.Statement.{statement}
 use Rattle.queues.proofs.transfers.fetch.Tie as tie
 
 returns : tie.Need-returns
-unfolding fetched
 returns c =
-    let atTest = c .before .before .before in
-    rw (← atTest .before .next-of .ensures, ne-eqb _ _ (atTest .if1 .taken)) (c .fetch-entry .ensures)
-
-returns-2 : tie.Need-returns-2
-unfolding fetched
-returns-2 c = rw (← c .before .next-of .ensures, eq-eqb _ _ (c .if1 .left))
+    let atList2 = c .before in
+    let atUnlink = atList2 .before .before .before in
+    let atList = atUnlink .before in
+    let atField = atList .before .before .before in
+    fetch-made _ _ _ _ _ _ _ _ _ _ _ _ (atField .set-field .ensures) (atList .list-of .ensures) (atUnlink .unlink .ensures)
+    (atList2 .list-of2 .ensures) (c .link .ensures)
 
 pub fetch-spec : {M : Type 1} → statement M
 fetch-spec =
@@ -21,5 +19,7 @@ fetch-spec =
     (tie.spec
     (λ c κs. search needs)
     (λ c κs. search needs)
-    returns
-    returns-2)
+    (λ c κs. search needs)
+    (λ c κs. search needs)
+    (λ c κs. search needs)
+    returns)
