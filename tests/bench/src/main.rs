@@ -6,6 +6,7 @@
 
 mod first;
 mod mixed;
+mod neighbours;
 mod shapes;
 
 use second::check::{check_bytes, Answer};
@@ -48,6 +49,7 @@ second: tests/second. Its work for each group grows with the groups. Built for r
         its own tests have.
 mixed:  one item in three is a transfer's command, of all ranks and queues, done at once or waiting in many ways.
 falling, rising, ring: two ranks; arrows that fall, none that fall, and a ring of all groups.
+named:  sixteen transfers wait in one queue, each for another rank, and each pop names the rank whose entry stands last.
 program: so many transitions, each a write of constants, and a record of no items.";
 
 /// A shape of records: its name, its program, what a record of so many items does, and its verdict.
@@ -58,7 +60,7 @@ struct Shape {
     cyclic: bool,
 }
 
-const SHAPES: [Shape; 4] = [
+const SHAPES: [Shape; 5] = [
     Shape {
         name: "mixed",
         program: mixed::program,
@@ -82,6 +84,12 @@ const SHAPES: [Shape; 4] = [
         program: shapes::program,
         acts: |_, items| shapes::ring(items),
         cyclic: true,
+    },
+    Shape {
+        name: "named",
+        program: neighbours::program,
+        acts: |_, items| neighbours::acts(items),
+        cyclic: false,
     },
 ];
 

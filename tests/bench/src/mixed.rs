@@ -2,7 +2,7 @@
 
 use second::expression::{Expression, Operator};
 use second::program::{Kind, Program, Transition};
-use second::record::Act;
+use second::record::{Act, Pop};
 
 /// N, A, R and Q: all at their limits.
 const RANKS: usize = 16;
@@ -38,20 +38,19 @@ impl Transfer {
         }
     }
 
+    /// A pop of its queue's head.
+    fn head(self) -> Pop {
+        Pop::of_all(self.rank, self.transition % QUEUES)
+    }
+
     /// Its fetch, of its queue's head.
     fn popa(self) -> Act {
-        Act::PopA {
-            rank: self.rank,
-            queue: self.transition % QUEUES,
-        }
+        Act::PopA(self.head())
     }
 
     /// Its delivery, from its queue's head.
     fn popb(self) -> Act {
-        Act::PopB {
-            rank: self.rank,
-            queue: self.transition % QUEUES,
-        }
+        Act::PopB(self.head())
     }
 }
 

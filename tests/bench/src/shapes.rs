@@ -3,7 +3,7 @@
 use crate::mixed::constant;
 use second::expression::{Expression, Operator};
 use second::program::{Kind, Program, Transition};
-use second::record::Act;
+use second::record::{Act, Pop};
 
 /// The cells that are stored to and read. Transition c stores to cell c, transition SHARED + c reads it, and the last one assigns.
 const SHARED: usize = 32;
@@ -67,8 +67,13 @@ fn read(number: usize) -> Act {
     }
 }
 
-const FETCH: Act = Act::PopA { rank: 1, queue: 0 };
-const DELIVERY: Act = Act::PopB { rank: 1, queue: 0 };
+const HEAD: Pop = Pop {
+    rank: 1,
+    queue: 0,
+    remote: None,
+};
+const FETCH: Act = Act::PopA(HEAD);
+const DELIVERY: Act = Act::PopB(HEAD);
 
 /// Arrows that fall: rank 1 reads cells to which rank 2 stores before they are fetched.
 pub fn falling(items: usize) -> Vec<Act> {
