@@ -34,8 +34,8 @@ enum {
     LELLMUSU_PROGRAM_FORM = 3,
     /* Byte: record ends early or has bytes left over, placed as in 1. */
     LELLMUSU_RECORD_LENGTH = 4,
-    /* Byte: item count above 1,024, or an item's rank, transition, queue or place outside its
-     * range. */
+    /* Byte: item count above 1,024, or an item's rank, transition, queue, place or remote rank
+     * outside its range. */
     LELLMUSU_RECORD_RANGE = 5,
     /* Byte: item's unknown kind, then map not among its kind's. */
     LELLMUSU_RECORD_FORM = 6,
@@ -45,7 +45,7 @@ enum {
     LELLMUSU_OPERAND_RANGE = 8,
     /* Item: assume gives 0. */
     LELLMUSU_ASSUME_FAILS = 9,
-    /* Item: pop of an empty queue. */
+    /* Item: pop of an empty queue, or of one with no entry for the remote rank that it names. */
     LELLMUSU_EMPTY_QUEUE = 10,
     /* Item: place or given value differs from the replay. */
     LELLMUSU_ACCESS_DIFFERS = 11,
@@ -95,8 +95,9 @@ uint8_t lellmusu_check(const uint8_t *program, size_t program_length, const uint
 
 /*
  * Writes the slip of a run: a map of the ranks that have a command item, in two bytes for a program
- * of more than 8 ranks and in one for others, then for each of them a two-byte count of those items. Program and record are refused as lellmusu_check refuses them,
- * by 1 to 13; then a memory that is too short, by 15 with the bytes needed.
+ * of more than 8 ranks and in one for others, then for each of them a two-byte count of those
+ * items. Program and record are refused as lellmusu_check refuses them, by 1 to 13; then a memory
+ * that is too short, by 15 with the bytes needed.
  *
  *   slip     gets the slip's bytes, from its first byte on
  *   value    gets the count of bytes written or, of a refusal, its place
