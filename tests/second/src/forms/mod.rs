@@ -1,6 +1,6 @@
 //! The verdict on each map byte and kind byte of an item, written from document 01 and document
-//! 02's #107 and #108 alone. `record` has no part in it: this is a second text, and every reader is held to
-//! it, that one too.
+//! 02's #107 and #108 alone. `record` has no part in it: this is a second text, and every reader is
+//! held to it, that one too.
 
 pub mod hold;
 pub mod inputs;
