@@ -2,123 +2,129 @@
 -- the conditions hold, whatever the item's number is.
 use Prim.Native.Nat.{ℕ, _<_}
 use mathlib.Core.Path.{_≡_, refl, ap, subst, _∙_}
-use mathlib.Core.Bool.{Bool, true, false}
+use mathlib.Core.Bool.{true}
+use mathlib.Core.Option.{some}
 use lib.Dec.{ltb}
 use borrow.Author.Tests.{ltb-true, lt-ltb}
-use Rattle.model.specs.Refusals.{Result, ok, require, operandRange, assumeFails, _>>=_}
+use Rattle.model.specs.Refusals.{Result, ok, operandRange, assumeFails, noValue, _>>=_}
 use Rattle.model.specs.Choice.{between}
 use Rattle.model.specs.Expressions.{Expression}
 use Rattle.model.specs.Programs.{Program, Command, load, store, assign, assume, read, write, bar}
-use Rattle.model.specs.Machine.{Action, loads, stores, assigns, passes, issues, meets, Transfer, address, operand, cellOperand, transfer, action, valueOf}
-use Rattle.model.specs.Rules.{Cell, Operands}
-use Rattle.model.proofs.Laws.{refused≢ok, bind-ok, required, ok-injective, between-true, true-between}
+use Rattle.model.specs.Machine.{Action, loads, stores, assigns, passes, issues, meets, Transfer, address, value, transfer, action, valueOf}
+use Rattle.model.specs.Rules.{Cell, Evaluates, Operands}
+use Rattle.model.proofs.Laws.{bind-ok, required, presented, ok-injective, between-true, true-between}
 
 module _ (P : Program) (r : ℕ) (registers : ℕ → ℕ) where
-  -- The value of an expression.
-  abbrev value : Expression → ℕ
-  value = valueOf P r registers
-
-  -- Rank r's command asks for an action: the side conditions of its rule hold, and the expressions have the action's values.
+  -- Rank r's command asks for an action: the side conditions of its rule hold, and its expressions have the action's values.
   pub data Asks : Command → Action → Type 0 where
-    loading : {x : ℕ} {e : Expression} → Cell P (value e) → Asks (load x e) (loads x (value e))
-    storing : {e₁ e₂ : Expression} → Cell P (value e₁) → Asks (store e₁ e₂) (stores (value e₁) (value e₂))
-    assigning : {x : ℕ} {e : Expression} → Asks (assign x e) (assigns x (value e))
-    passing : {e : Expression} → 0 < value e → Asks (assume e) passes
-    reading : {e₁ e₂ e₃ e₄ : Expression} → Operands P r registers e₁ e₂ e₃ e₄ →
-        Asks (read e₁ e₂ e₃ e₄)
-        (issues (value e₄) (value e₂) (address (value e₂) (value e₃)) (address r (value e₁)))
-    writing : {e₁ e₂ e₃ e₄ : Expression} → Operands P r registers e₁ e₂ e₃ e₄ →
-        Asks (write e₁ e₂ e₃ e₄)
-        (issues (value e₄) (value e₂) (address r (value e₁)) (address (value e₂) (value e₃)))
+    loading : {x a : ℕ} {e : Expression} → Evaluates P r registers e a → Cell P a → Asks (load x e) (loads x a)
+    storing : {a v : ℕ} {e₁ e₂ : Expression} → Evaluates P r registers e₁ a → Evaluates P r registers e₂ v → Cell P a →
+        Asks (store e₁ e₂) (stores a v)
+    assigning : {x v : ℕ} {e : Expression} → Evaluates P r registers e v → Asks (assign x e) (assigns x v)
+    passing : {v : ℕ} {e : Expression} → Evaluates P r registers e v → 0 < v → Asks (assume e) passes
+    reading : {a n b q : ℕ} {e₁ e₂ e₃ e₄ : Expression} → Operands P r registers e₁ e₂ e₃ e₄ a n b q →
+        Asks (read e₁ e₂ e₃ e₄) (issues q n (address n b) (address r a))
+    writing : {a n b q : ℕ} {e₁ e₂ e₃ e₄ : Expression} → Operands P r registers e₁ e₂ e₃ e₄ a n b q →
+        Asks (write e₁ e₂ e₃ e₄) (issues q n (address r a) (address n b))
     meeting : Asks bar meets
 
-  -- A transfer whose operands are in their domains.
-  abbrev transferOf : (e₁ e₂ e₃ e₄ : Expression) → Transfer
-  transferOf e₁ e₂ e₃ e₄ =
+  -- A transfer whose operands have these values.
+  abbrev transferOf : (a n b q : ℕ) → Transfer
+  transferOf a n b q = record { own = address r a; remote = address n b; queue = q }
+
+  -- A value that is handed on is its expression's.
+  value-given : {B : Type 0} (at : ℕ) (e : Expression) (f : ℕ → Result B) {b : B} →
+      (value P r registers at e >>= f) ≡ ok b → (v : ℕ) × Evaluates P r registers e v × (f v ≡ ok b)
+  unfolding value
+  value-given at e = presented (valueOf P r registers e) noValue at
+
+  -- A transfer whose operands have values in their domains, as the replay computes it.
+  record Transferred (e₁ e₂ e₃ e₄ : Expression) (t : Transfer) : Type 0 where
+    a : ℕ
+    n : ℕ
+    b : ℕ
+    q : ℕ
+    operands : Operands P r registers e₁ e₂ e₃ e₄ a n b q
+    same : transferOf a n b q ≡ t
+
+  transfer-ok : (at : ℕ) (e₁ e₂ e₃ e₄ : Expression) {t : Transfer} → transfer P r registers at e₁ e₂ e₃ e₄ ≡ ok t → Transferred e₁ e₂ e₃ e₄ t
+  unfolding transfer
+  transfer-ok at e₁ e₂ e₃ e₄ h =
+      let (a, own-value, h₁) = value-given at e₁ _ h in
+      let (n, rank-value, h₂) = value-given at e₂ _ h₁ in
+      let (b, cell-value, h₃) = value-given at e₃ _ h₂ in
+      let (q, queue-value, h₄) = value-given at e₄ _ h₃ in
+      let (own, h₅) = required (ltb a (P .header .cells)) operandRange at _ h₄ in
+      let (rank, h₆) = required (between 1 (P .header .ranks) n) operandRange at _ h₅ in
+      let (cell, h₇) = required (ltb b (P .header .cells)) operandRange at _ h₆ in
+      let (queue, h₈) = required (ltb q (P .header .queues)) operandRange at _ h₇ in
+      let domain = between-true 1 (P .header .ranks) n rank in
       record {
-        own = address r (value e₁);
-        remote = address (value e₂) (value e₃);
-        queue = value e₄;
+        a = a;
+        n = n;
+        b = b;
+        q = q;
+        operands =
+            record {
+              own-value = own-value;
+              rank-value = rank-value;
+              cell-value = cell-value;
+              queue-value = queue-value;
+              own = ltb-true _ _ own;
+              rank = record { low = domain .low; high = domain .high };
+              cell = ltb-true _ _ cell;
+              queue = ltb-true _ _ queue;
+            };
+        same = ok-injective h₈;
       }
 
-  -- An operand that is handed on is its expression's value, and passed its test.
-  operand-passes : {B : Type 0} (at : ℕ) (test : ℕ → Bool) (e : Expression) (f : ℕ → Result B) {b : B} →
-      (operand P r registers at test e >>= f) ≡ ok b → (test (value e) ≡ true) × (f (value e) ≡ ok b)
-  unfolding operand
-  operand-passes at test e f {b} h = go (test (value e)) h
-    where
-      go : (t : Bool) → ((require t operandRange at >>= λ _. ok (value e)) >>= f) ≡ ok b → (t ≡ true) × (f (value e) ≡ ok b)
-      go true h = (refl, h)
-      go false h = absurd (refused≢ok h)
-
-  -- An operand that passes its test is handed on.
-  passes-operand : {B : Type 0} (at : ℕ) (test : ℕ → Bool) (e : Expression) (f : ℕ → Result B) → test (value e) ≡ true →
-      (operand P r registers at test e >>= f) ≡ f (value e)
-  unfolding operand
-  passes-operand at test e f h = rw h
-
-  -- A transfer has its operands exactly if they are in their domains.
-  transfer-ok : (at : ℕ) (e₁ e₂ e₃ e₄ : Expression) {t : Transfer} → transfer P r registers at e₁ e₂ e₃ e₄ ≡ ok t →
-      Operands P r registers e₁ e₂ e₃ e₄ × (transferOf e₁ e₂ e₃ e₄ ≡ t)
-  unfolding transfer cellOperand
-  transfer-ok at e₁ e₂ e₃ e₄ h =
-      let own = operand-passes at (λ a. ltb a (P .header .cells)) e₁ _ h in
-      let remote = operand-passes at (between 1 (P .header .ranks)) e₂ _ (own .1) in
-      let cell = operand-passes at (λ a. ltb a (P .header .cells)) e₃ _ (remote .1) in
-      let queue = operand-passes at (λ q. ltb q (P .header .queues)) e₄ _ (cell .1) in
-      let domain = between-true 1 (P .header .ranks) (value e₂) (remote .0) in (
-        record {
-          own = ltb-true _ _ (own .0);
-          rank = record { low = domain .low; high = domain .high };
-          cell = ltb-true _ _ (cell .0);
-          queue = ltb-true _ _ (queue .0);
-        },
-        ok-injective (queue .1),
-      )
-
-  ok-transfer : (at : ℕ) (e₁ e₂ e₃ e₄ : Expression) → Operands P r registers e₁ e₂ e₃ e₄ →
-      transfer P r registers at e₁ e₂ e₃ e₄ ≡ ok (transferOf e₁ e₂ e₃ e₄)
-  unfolding transfer cellOperand
-  ok-transfer at e₁ e₂ e₃ e₄ h =
-      passes-operand at (λ a. ltb a (P .header .cells)) e₁ _ (lt-ltb _ _ (h .own)) ∙
-      passes-operand at (between 1 (P .header .ranks)) e₂ _ (true-between 1 _ _ (record { low = h .rank .low; high = h .rank .high })) ∙
-      passes-operand at (λ a. ltb a (P .header .cells)) e₃ _ (lt-ltb _ _ (h .cell)) ∙
-      passes-operand at (λ q. ltb q (P .header .queues)) e₄ _ (lt-ltb _ _ (h .queue))
+  ok-transfer : (at : ℕ) {e₁ e₂ e₃ e₄ : Expression} {a n b q : ℕ} → Operands P r registers e₁ e₂ e₃ e₄ a n b q →
+      transfer P r registers at e₁ e₂ e₃ e₄ ≡ ok (transferOf a n b q)
+  unfolding transfer value
+  ok-transfer at {a = a} {n} {b} {q} h =
+      let rank : between 1 (P .header .ranks) n ≡ true = true-between 1 _ n (record { low = h .rank .low; high = h .rank .high }) in
+      rw (h .own-value, h .rank-value, h .cell-value, h .queue-value, lt-ltb a _ (h .own), rank, lt-ltb b _ (h .cell), lt-ltb q _ (h .queue))
 
   -- A command's action is computed: its side conditions hold.
   pub action-asks : (at : ℕ) (c : Command) {a : Action} → action P r registers at c ≡ ok a → Asks c a
-  unfolding action cellOperand
+  unfolding action
   action-asks at (load x e) h =
-      let cell = operand-passes at (λ a. ltb a (P .header .cells)) e _ h in
-      subst (Asks (load x e)) (ok-injective (cell .1)) (loading (ltb-true _ _ (cell .0)))
+      let (a, here, h₁) = value-given at e _ h in
+      let (cell, h₂) = required (ltb a (P .header .cells)) operandRange at _ h₁ in
+      subst (Asks (load x e)) (ok-injective h₂) (loading here (ltb-true _ _ cell))
   action-asks at (store e₁ e₂) h =
-      let cell = operand-passes at (λ a. ltb a (P .header .cells)) e₁ _ h in
-      subst (Asks (store e₁ e₂)) (ok-injective (cell .1)) (storing (ltb-true _ _ (cell .0)))
-  action-asks at (assign x e) h = subst (Asks (assign x e)) (ok-injective h) assigning
+      let (a, here, h₁) = value-given at e₁ _ h in
+      let (v, stored, h₂) = value-given at e₂ _ h₁ in
+      let (cell, h₃) = required (ltb a (P .header .cells)) operandRange at _ h₂ in
+      subst (Asks (store e₁ e₂)) (ok-injective h₃) (storing here stored (ltb-true _ _ cell))
+  action-asks at (assign x e) h =
+      let (v, assigned, h₁) = value-given at e _ h in
+      subst (Asks (assign x e)) (ok-injective h₁) (assigning assigned)
   action-asks at (assume e) h =
-      let test = required (ltb 0 (value e)) assumeFails at _ h in
-      subst (Asks (assume e)) (ok-injective (test .1)) (passing (ltb-true _ _ (test .0)))
+      let (v, assumed, h₁) = value-given at e _ h in
+      let (test, h₂) = required (ltb 0 v) assumeFails at _ h₁ in
+      subst (Asks (assume e)) (ok-injective h₂) (passing assumed (ltb-true _ _ test))
   action-asks at (read e₁ e₂ e₃ e₄) h =
-      let (t, p, q) = bind-ok (transfer P r registers at e₁ e₂ e₃ e₄) _ h in
+      let (t, p, h₁) = bind-ok (transfer P r registers at e₁ e₂ e₃ e₄) _ h in
       let found = transfer-ok at e₁ e₂ e₃ e₄ p in
-      let same = ap (λ (u : Transfer). issues (u .queue) (u .remote .rank) (u .remote) (u .own)) (found .1) ∙ ok-injective q in
-      subst (Asks (read e₁ e₂ e₃ e₄)) same (reading (found .0))
+      let same = ap (λ (u : Transfer). issues (u .queue) (u .remote .rank) (u .remote) (u .own)) (found .same) ∙ ok-injective h₁ in
+      subst (Asks (read e₁ e₂ e₃ e₄)) same (reading (found .operands))
   action-asks at (write e₁ e₂ e₃ e₄) h =
-      let (t, p, q) = bind-ok (transfer P r registers at e₁ e₂ e₃ e₄) _ h in
+      let (t, p, h₁) = bind-ok (transfer P r registers at e₁ e₂ e₃ e₄) _ h in
       let found = transfer-ok at e₁ e₂ e₃ e₄ p in
-      let same = ap (λ (u : Transfer). issues (u .queue) (u .remote .rank) (u .own) (u .remote)) (found .1) ∙ ok-injective q in
-      subst (Asks (write e₁ e₂ e₃ e₄)) same (writing (found .0))
+      let same = ap (λ (u : Transfer). issues (u .queue) (u .remote .rank) (u .own) (u .remote)) (found .same) ∙ ok-injective h₁ in
+      subst (Asks (write e₁ e₂ e₃ e₄)) same (writing (found .operands))
   action-asks at bar h = subst (Asks bar) (ok-injective h) meeting
 
   -- A command's side conditions hold: its action is computed.
   pub asks-action : (at : ℕ) {c : Command} {a : Action} → Asks c a → action P r registers at c ≡ ok a
-  unfolding action cellOperand
-  asks-action at (loading {x} {e} cell) = passes-operand at (λ a. ltb a (P .header .cells)) e _ (lt-ltb _ _ cell)
-  asks-action at (storing {e₁} {e₂} cell) = passes-operand at (λ a. ltb a (P .header .cells)) e₁ _ (lt-ltb _ _ cell)
-  asks-action at assigning = refl
-  asks-action at (passing {e} test) = rw (lt-ltb 0 (value e) test)
-  asks-action at (reading {e₁} {e₂} {e₃} {e₄} operands) = rw (ok-transfer at e₁ e₂ e₃ e₄ operands)
-  asks-action at (writing {e₁} {e₂} {e₃} {e₄} operands) = rw (ok-transfer at e₁ e₂ e₃ e₄ operands)
+  unfolding action value
+  asks-action at (loading {a = a} here cell) = rw (here, lt-ltb a _ cell)
+  asks-action at (storing {a = a} here stored cell) = rw (here, stored, lt-ltb a _ cell)
+  asks-action at (assigning assigned) = rw assigned
+  asks-action at (passing {v} assumed test) = rw (assumed, lt-ltb 0 v test)
+  asks-action at (reading operands) = rw (ok-transfer at operands)
+  asks-action at (writing operands) = rw (ok-transfer at operands)
   asks-action at meeting = refl
 
   -- So the action of a command is the same at whatever item.

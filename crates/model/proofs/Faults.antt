@@ -3,11 +3,12 @@ use Prim.Native.Nat.{ℕ, zero, suc}
 use mathlib.Core.Path.{_≡_, refl, sym}
 use mathlib.Core.Bool.{Bool, true, false}
 use mathlib.Core.List.{List, [], _∷_}
+use mathlib.Core.Option.{Option, some, none}
 use lib.Dec.{ltb, eqb}
 use lib.ListN.{length}
 use Rattle.model.specs.declared.Refusal.{Refusal}
 use Rattle.model.specs.Refusals as Refusals
-use Rattle.model.specs.Refusals.{Result, ok, refused, refuse, require}
+use Rattle.model.specs.Refusals.{Result, ok, refused, refuse, require, present}
 use Rattle.model.specs.Bytes.{Reader, _>>=_, pure, here, fault, byte, word, judged, optional, times, whole}
 use Rattle.model.proofs.Laws.{decided, refused≢ok}
 use Rattle.model.proofs.Bytes.{word-is}
@@ -35,6 +36,10 @@ module _ {Row : ℕ → Type 0} where
   pub require-tabled : (t : Bool) (number place : ℕ) → Row number → Tabled Row (require t number place)
   require-tabled true number place row = ok-tabled tt
   require-tabled false number place row = refuse-tabled number place row
+
+  pub present-tabled : {A : Type 0} (o : Option A) (number place : ℕ) → Row number → Tabled Row (present o number place)
+  present-tabled (some a) number place row = ok-tabled a
+  present-tabled none number place row = refuse-tabled number place row
 
   pub pure-faults : {A : Type 0} (a : A) → Faults Row (pure a)
   pure-faults a = record { tabled = λ bytes at. ok-tabled _ }

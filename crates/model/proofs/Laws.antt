@@ -4,13 +4,13 @@ use Prim.Native.Nat.{ℕ, zero, suc, _<_, _≤_}
 use mathlib.Core.Path.{_≡_, refl, sym, subst, _∙_, ap, fun-ext}
 use mathlib.Core.Bool.{Bool, true, false, _&&_, _||_, false≢true}
 use mathlib.Core.List.{List, [], _∷_}
-use mathlib.Core.Option.{some, Option·none-ne-some}
+use mathlib.Core.Option.{Option, some, none, Option·none-ne-some}
 use native.Mathlib.Nat.{zero-lt-suc}
 use native.Mathlib.Omega.{arith}
 use lib.Dec.{eqb, leb}
 use lib.ListN.{length, getElem?}
 use borrow.Author.Tests.{eq-eqb, ne-eqb, eqb-true, leb-true, le-leb}
-use Rattle.model.specs.Refusals.{Result, ok, refused, refuse, require, _>>=_}
+use Rattle.model.specs.Refusals.{Result, ok, refused, refuse, require, present, _>>=_}
 use Rattle.model.specs.Choice.{when, between}
 use Rattle.model.specs.Machine.{put, put₂}
 
@@ -44,6 +44,11 @@ pub required : {B : Type 0} (t : Bool) (number place : ℕ) (f : Unit {0} → Re
     (require t number place >>= f) ≡ ok b → (t ≡ true) × (f tt ≡ ok b)
 required true number place f h = (refl, h)
 required false number place f h = absurd (refused≢ok h)
+
+pub presented : {A B : Type 0} (o : Option A) (number place : ℕ) (f : A → Result B) {b : B} →
+    (present o number place >>= f) ≡ ok b → (a : A) × (o ≡ some a) × (f a ≡ ok b)
+presented (some a) number place f h = (a, refl, h)
+presented none number place f h = absurd (refused≢ok h)
 
 -- What follows matters only at the value that was found, and it may be put together first or last.
 pub bind-cong : {A B : Type 0} (m : Result A) (f g : A → Result B) → ((a : A) → m ≡ ok a → f a ≡ g a) → (m >>= f) ≡ (m >>= g)

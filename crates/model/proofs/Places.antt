@@ -2,9 +2,10 @@
 use Prim.Native.Nat.{ℕ, _≤_}
 use mathlib.Core.Path.{_≡_, refl, sym}
 use mathlib.Core.Bool.{Bool, true, false}
+use mathlib.Core.Option.{Option, some, none}
 use native.Mathlib.Omega.{arith}
 use Rattle.model.specs.declared.Refusal.{Refusal}
-use Rattle.model.specs.Refusals.{Result, ok, refused, refuse, require, _>>=_}
+use Rattle.model.specs.Refusals.{Result, ok, refused, refuse, require, present, _>>=_}
 use Rattle.model.proofs.Laws.{refused≢ok}
 
 -- What this result refuses is placed here or before.
@@ -28,3 +29,7 @@ placed-later after placed = record { place = λ r h. omega (arith, placed .place
 pub placed-require : (t : Bool) (number place : ℕ) → Placed place (require t number place)
 placed-require true number place = placed-ok tt
 placed-require false number place = placed-refuse number place (omega arith)
+
+pub placed-present : {A : Type 0} (o : Option A) (number place : ℕ) → Placed place (present o number place)
+placed-present (some a) number place = placed-ok a
+placed-present none number place = placed-refuse number place (omega arith)

@@ -96,6 +96,40 @@ storeOf e = alone 1 (6 ∷ 2 ∷ 0 ∷ 1 ∷ 0 ∷ 0 ∷ 0 ∷ e)
 unfoldable pub valueItem : (high low : ℕ) → List ℕ
 valueItem high low = 0 ∷ 1 ∷ 59 ∷ 2 ∷ 1 ∷ 0 ∷ 1 ∷ 0 ∷ 0 ∷ high ∷ low ∷ []
 
+-- A constant, an operator over two expressions, and 65,535 + 1, which has no value.
+unfoldable pub word : (high low : ℕ) → List ℕ
+word high low = 0 ∷ high ∷ low ∷ []
+
+unfoldable pub over : (token : ℕ) → (first second : List ℕ) → List ℕ
+over token first second = token ∷ (first ++ second)
+
+unfoldable pub pastRange : List ℕ
+unfolding word over
+pastRange = over 0x10 (word 255 255) (word 0 1)
+
+-- One transition of each kind, from a state, with its expressions; and an item of each kind that takes it.
+unfoldable pub assumeFrom : (state : ℕ) → (expression : List ℕ) → List ℕ
+unfolding alone
+assumeFrom state e = alone 1 (2 ∷ 4 ∷ state ∷ 1 ∷ e)
+
+unfoldable pub intoRegister : (kind : ℕ) → (expression : List ℕ) → List ℕ
+unfolding alone
+intoRegister kind e = alone 1 (3 ∷ kind ∷ 0 ∷ 1 ∷ 0 ∷ e)
+
+unfoldable pub storeBoth : (cell value : List ℕ) → List ℕ
+unfolding alone
+storeBoth cell value = alone 1 (6 ∷ 2 ∷ 0 ∷ 1 ∷ (cell ++ value))
+
+unfoldable pub transferOf : (kind : ℕ) → (own rank cell queue : List ℕ) → List ℕ
+unfolding alone
+transferOf kind own rank cell queue = alone 1 (30 ∷ kind ∷ 0 ∷ 1 ∷ (own ++ (rank ++ (cell ++ queue))))
+
+unfoldable pub accessItem : (kind : ℕ) → List ℕ
+accessItem kind = 0 ∷ 1 ∷ 27 ∷ kind ∷ 1 ∷ 0 ∷ 1 ∷ 0 ∷ 0 ∷ []
+
+unfoldable pub bareItem : (kind : ℕ) → List ℕ
+bareItem kind = 0 ∷ 1 ∷ 3 ∷ kind ∷ 1 ∷ 0 ∷ []
+
 -- A sum of ones: so many sums, then a one more; the last one is `last`.
 unfoldable pub sums : (count : ℕ) → (last : List ℕ) → List ℕ
 sums ℕ.zero last = last

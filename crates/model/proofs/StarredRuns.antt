@@ -1,5 +1,5 @@
 -- The starred runs of document 01, a run for each refusal and each of its "Mistakes that look sound", and the forms and refusals that document 02's
--- #107, #105 and #108 brought, as one table in six sections. Expected answers were worked out by hand from the papers. A theorem for each section,
+-- #107, #105, #108 and #102 brought, as one table in seven sections. Expected answers were worked out by hand from the papers. A theorem for each section,
 -- and one for the table, says that the definitions give each of them.
 use Prim.Native.Nat.{ℕ, _+_, _-_}
 use mathlib.Core.Path.{_≡_, refl, sym, _∙_, ap₂}
@@ -14,7 +14,7 @@ use Rattle.model.specs.Formats.{itemMaps}
 use Rattle.model.specs.Checks.{Outcome, checkIn, check, checkBytesIn, checkBytes}
 use Rattle.model.specs.Slips.{Lent, writeSlipIn, writeSlip, readSlipIn, readSlip}
 use Rattle.model.specs.Listings.{Listing, listingIn, listing, join}
-use Rattle.model.proofs.Samples.{neighbour, noItems, lateDelivery, deliveryFirst, alone, selfCopy, writeItem, popItem, copyThenStore, storeItem, assumeOf, storeTo, storeOf, valueItem, sums, twoTransfers, overtaking, barsThenStore, longStore, longAssume, barAlone, barRecord, farCopy, farCommands, farRecord, neighbours, twoAsked, thirdAsked, popAny, popFor}
+use Rattle.model.proofs.Samples.{neighbour, noItems, lateDelivery, deliveryFirst, alone, selfCopy, writeItem, popItem, copyThenStore, storeItem, assumeOf, storeTo, storeOf, valueItem, sums, twoTransfers, overtaking, barsThenStore, longStore, longAssume, barAlone, barRecord, farCopy, farCommands, farRecord, neighbours, twoAsked, thirdAsked, popAny, popFor, word, over, pastRange, assumeFrom, intoRegister, storeBoth, transferOf, accessItem, bareItem}
 
 -- What is asked: the whole check with what both lists hold, the same on bytes, a listing or a slip with what the memory holds, a slip read with N and
 -- what the counts hold.
@@ -226,9 +226,9 @@ replayRows =
     -- k* A = 64: store to cell 63 accepted; to cell 64, the item naming cell 63, gives 8
     orderRow (storeTo 63) (0 ∷ 1 ∷ storeItem 0 63) (0 ∷ []) (replicate 63 0 ++ 1 ∷ []) ∷
     refusedRow (storeTo 64) (0 ∷ 1 ∷ storeItem 0 63) 8 0 ∷
-    -- l* 65,535 + 1 gives 0; 0 − 1 gives 65,535
-    orderRow (storeOf (0x10 ∷ 0 ∷ 255 ∷ 255 ∷ 0 ∷ 0 ∷ 1 ∷ [])) (valueItem 0 0) (0 ∷ []) (0 ∷ []) ∷
-    orderRow (storeOf (0x11 ∷ 0 ∷ 0 ∷ 0 ∷ 0 ∷ 0 ∷ 1 ∷ [])) (valueItem 255 255) (0 ∷ []) (65_535 ∷ []) ∷
+    -- l* 65,535 + 1 and 0 − 1, which document 01 gave 0 and 65,535: "Run l now refuses"
+    refusedRow (storeOf (0x10 ∷ 0 ∷ 255 ∷ 255 ∷ 0 ∷ 0 ∷ 1 ∷ [])) (valueItem 0 0) 18 0 ∷
+    refusedRow (storeOf (0x11 ∷ 0 ∷ 0 ∷ 0 ∷ 0 ∷ 0 ∷ 1 ∷ [])) (valueItem 255 255) 18 0 ∷
     -- 7: not from the rank's state; of another kind
     refusedRow neighbour (0 ∷ 1 ∷ 3 ∷ 6 ∷ 1 ∷ 1 ∷ []) 7 0 ∷
     refusedRow neighbour (0 ∷ 1 ∷ 3 ∷ 3 ∷ 1 ∷ 0 ∷ []) 7 0 ∷
@@ -404,6 +404,45 @@ neighbourRows =
     refusedRow neighbours (0 ∷ 1 ∷ 67 ∷ 6 ∷ 1 ∷ 0 ∷ 2 ∷ []) 6 2 ∷
     refusedRow neighbours (0 ∷ 1 ∷ 91 ∷ 1 ∷ 1 ∷ 0 ∷ 1 ∷ 0 ∷ 0 ∷ 2 ∷ []) 6 2 ∷ []
 
+-- Document 02, #102: values at the edges of their range and beyond, and where 18 stands among the other numbers. Run l is above.
+pub sumRows : List Row
+unfolding
+    noItems storeOf valueItem word over pastRange assumeFrom intoRegister storeBoth transferOf accessItem bareItem orderRow refusedRow
+sumRows =
+    -- 65,535 and 0 are values: 65,535 + 0, 0 − 0, 255 × 257, 65,535 − 65,535
+    orderRow (storeOf (over 0x10 (word 255 255) (word 0 0))) (valueItem 255 255) (0 ∷ []) (65_535 ∷ []) ∷
+    orderRow (storeOf (over 0x11 (word 0 0) (word 0 0))) (valueItem 0 0) (0 ∷ []) (0 ∷ []) ∷
+    orderRow (storeOf (over 0x12 (word 0 255) (word 1 1))) (valueItem 255 255) (0 ∷ []) (65_535 ∷ []) ∷
+    orderRow (storeOf (over 0x11 (word 255 255) (word 255 255))) (valueItem 0 0) (0 ∷ []) (0 ∷ []) ∷
+    -- 256 × 256; 65,535 × 65,535, which is 1 modulo 65,536
+    refusedRow (storeOf (over 0x12 (word 1 0) (word 1 0))) (valueItem 0 0) 18 0 ∷
+    refusedRow (storeOf (over 0x12 (word 255 255) (word 255 255))) (valueItem 0 1) 18 0 ∷
+    -- "and neither has an expression holding it": (65,535 + 1) − 1, 0 × (65,535 + 1), and an equal or a less over it, on either side
+    refusedRow (storeOf (over 0x11 pastRange (word 0 1))) (valueItem 255 255) 18 0 ∷
+    refusedRow (storeOf (over 0x12 (word 0 0) pastRange)) (valueItem 0 0) 18 0 ∷
+    refusedRow (storeOf (over 0x13 (word 0 0) pastRange)) (valueItem 0 1) 18 0 ∷
+    refusedRow (storeOf (over 0x13 pastRange pastRange)) (valueItem 0 1) 18 0 ∷
+    refusedRow (storeOf (over 0x14 pastRange (word 0 1))) (valueItem 0 1) 18 0 ∷
+    refusedRow (storeOf (over 0x14 (word 0 1) pastRange)) (valueItem 0 0) 18 0 ∷
+    -- any expression of any command
+    refusedRow (intoRegister 1 pastRange) (accessItem 1) 18 0 ∷
+    refusedRow (storeBoth pastRange (word 0 1)) (accessItem 2) 18 0 ∷
+    refusedRow (intoRegister 3 pastRange) (bareItem 3) 18 0 ∷
+    refusedRow (assumeFrom 0 pastRange) (bareItem 4) 18 0 ∷
+    refusedRow (transferOf 6 pastRange (word 0 1) (word 0 0) (word 0 0)) (bareItem 6) 18 0 ∷
+    refusedRow (transferOf 5 (word 0 0) pastRange (word 0 0) (word 0 0)) (bareItem 5) 18 0 ∷
+    refusedRow (transferOf 6 (word 0 0) (word 0 1) pastRange (word 0 0)) (bareItem 6) 18 0 ∷
+    refusedRow (transferOf 5 (word 0 0) (word 0 1) (word 0 0) pastRange) (bareItem 5) 18 0 ∷
+    -- "after 7 and before 8 and 9": another state, another kind; an own cell out of its range beside a later expression without a value
+    refusedRow (assumeFrom 1 pastRange) (bareItem 4) 7 0 ∷
+    refusedRow (assumeFrom 0 pastRange) (bareItem 3) 7 0 ∷
+    refusedRow (storeBoth (word 0 1) pastRange) (accessItem 2) 18 0 ∷
+    refusedRow (transferOf 6 (word 0 1) (word 0 1) (word 0 0) pastRange) (bareItem 6) 18 0 ∷
+    refusedRow (transferOf 5 (word 0 0) (word 0 2) (word 0 0) pastRange) (bareItem 5) 18 0 ∷
+    refusedRow (transferOf 6 (word 0 1) (word 0 1) (word 0 0) (word 0 0)) (bareItem 6) 8 0 ∷
+    -- a transition that is not taken has no values
+    orderRow (assumeFrom 0 pastRange) noItems [] (0 ∷ []) ∷ []
+
 -- The definitions give the answer of each of these rows.
 abbrev pub Answered : List Row → Type 0
 Answered rows = map (λ row. reply (row .question)) rows ≡ map (λ row. row .expected) rows
@@ -433,15 +472,20 @@ pub neighbour-rows : Answered neighbourRows
 unfolding reply neighbourRows
 neighbour-rows = refl
 
+pub sum-rows : Answered sumRows
+unfolding reply sumRows
+sum-rows = refl
+
 -- And the one of the whole table.
 answered-both : (rows more : List Row) → Answered rows → Answered more → Answered (rows ++ more)
 answered-both rows more h g =
     map-append (λ (row : Row). reply (row .question)) rows more ∙ ap₂ _++_ h g ∙ sym (map-append (λ (row : Row). row .expected) rows more)
 
-pub every-row : Answered (readingRows ++ (replayRows ++ (verdictRows ++ (transitionRows ++ (rankRows ++ neighbourRows)))))
+pub every-row : Answered (readingRows ++ (replayRows ++ (verdictRows ++ (transitionRows ++ (rankRows ++ (neighbourRows ++ sumRows))))))
 every-row =
-    answered-both readingRows (replayRows ++ (verdictRows ++ (transitionRows ++ (rankRows ++ neighbourRows)))) reading-rows
-    (answered-both replayRows (verdictRows ++ (transitionRows ++ (rankRows ++ neighbourRows))) replay-rows
-    (answered-both verdictRows (transitionRows ++ (rankRows ++ neighbourRows)) verdict-rows
-    (answered-both transitionRows (rankRows ++ neighbourRows) transition-rows
-    (answered-both rankRows neighbourRows rank-rows neighbour-rows))))
+    answered-both readingRows (replayRows ++ (verdictRows ++ (transitionRows ++ (rankRows ++ (neighbourRows ++ sumRows))))) reading-rows
+    (answered-both replayRows (verdictRows ++ (transitionRows ++ (rankRows ++ (neighbourRows ++ sumRows)))) replay-rows
+    (answered-both verdictRows (transitionRows ++ (rankRows ++ (neighbourRows ++ sumRows))) verdict-rows
+    (answered-both transitionRows (rankRows ++ (neighbourRows ++ sumRows)) transition-rows
+    (answered-both rankRows (neighbourRows ++ sumRows) rank-rows
+    (answered-both neighbourRows sumRows neighbour-rows sum-rows)))))

@@ -1,12 +1,12 @@
 -- Expressions (document 01, "Expressions are tokens in prefix form, at most 15 each"): their form, their reader and their value.
-use Prim.Native.Nat.{ℕ, zero, suc, _+_, _-_, _*_, _%_}
+use Prim.Native.Nat.{ℕ, zero, suc, _+_, _-_, _*_}
 use mathlib.Core.Bool.{Bool, true, false}
 use mathlib.Core.List.{List, [], _∷_}
 use mathlib.Core.Option.{Option, some, none}
-use lib.Dec.{ltb, eqb}
+use lib.Dec.{ltb, leb, eqb}
 use Rattle.model.specs.Limits.{maxTokens, wordValues}
 use Rattle.model.specs.Refusals.{programLength, programRange, programForm}
-use Rattle.model.specs.Choice.{lookup}
+use Rattle.model.specs.Choice.{when, lookup}
 use Rattle.model.specs.Bytes.{Reader, pure, here, fault, byte, word, judged, _>>=_}
 
 -- "10 sum, 11 difference, 12 product, 13 equal, 14 less; 10 to 14 take two operands."
@@ -98,20 +98,31 @@ abbrev pub truth : Bool → ℕ
 truth true = 1
 truth false = 0
 
--- "Sum, difference and product are taken modulo 65,536."
-unfoldable pub operate : Operator → ℕ → ℕ → ℕ
-operate sum a b = (a + b) % wordValues
-operate difference a b = (a + (wordValues - b % wordValues)) % wordValues
-operate product a b = a * b % wordValues
-operate equal a b = truth (eqb a b)
-operate less a b = truth (ltb a b)
+-- "Values are unsigned 16-bit numbers."
+abbrev pub inRange : ℕ → Option ℕ
+inRange n = when (ltb n wordValues) (λ _. some n) (λ _. none)
 
--- The value of an expression in a rank, by N and that rank's registers.
-unfoldable pub evaluate : (ranks rank : ℕ) → (registers : ℕ → ℕ) → Expression → ℕ
+-- Document 02, #102: "A sum or product above 65,535 or a difference below 0 has no value any more".
+unfoldable pub operate : Operator → ℕ → ℕ → Option ℕ
+operate sum a b = inRange (a + b)
+operate difference a b = when (leb b a) (λ _. some (a - b)) (λ _. none)
+operate product a b = inRange (a * b)
+operate equal a b = some (truth (eqb a b))
+operate less a b = some (truth (ltb a b))
+
+-- "and neither has an expression holding it", whatever the operator.
+unfoldable pub operated : Operator → Option ℕ → Option ℕ → Option ℕ
 unfolding operate
-evaluate ranks rank registers (constant n) = n
-evaluate ranks rank registers (register i) = registers i
-evaluate ranks rank registers ownRank = rank
-evaluate ranks rank registers rankCount = ranks
+operated o (some a) (some b) = operate o a b
+operated o (some a) none = none
+operated o none b = none
+
+-- The value of an expression in a rank, by N and that rank's registers, if it has one.
+unfoldable pub evaluate : (ranks rank : ℕ) → (registers : ℕ → ℕ) → Expression → Option ℕ
+unfolding operated
+evaluate ranks rank registers (constant n) = some n
+evaluate ranks rank registers (register i) = some (registers i)
+evaluate ranks rank registers ownRank = some rank
+evaluate ranks rank registers rankCount = some ranks
 evaluate ranks rank registers (apply o a b) =
-    operate o (evaluate ranks rank registers a) (evaluate ranks rank registers b)
+    operated o (evaluate ranks rank registers a) (evaluate ranks rank registers b)

@@ -5,7 +5,7 @@ use mathlib.Core.List.{List, []}
 use mathlib.Core.Option.{Option, some}
 use lib.Dec.{ltb, eqb}
 use Rattle.model.specs.declared.Address.{Address}
-use Rattle.model.specs.Refusals.{Result, ok, require, operandRange, assumeFails, _>>=_}
+use Rattle.model.specs.Refusals.{Result, ok, require, present, operandRange, assumeFails, noValue, _>>=_}
 use Rattle.model.specs.Choice.{when, between}
 use Rattle.model.specs.Expressions.{Expression, evaluate}
 use Rattle.model.specs.Programs.{Program, Command, load, store, assign, assume, read, write, bar}
@@ -152,43 +152,51 @@ pub record Transfer : Type 0 where
   pub queue : ℕ
 
 -- "Expressions use the rank's registers before the step."
-unfoldable pub valueOf : Program → (rank : ℕ) → (registers : ℕ → ℕ) → Expression → ℕ
+unfoldable pub valueOf : Program → (rank : ℕ) → (registers : ℕ → ℕ) → Expression → Option ℕ
 unfolding evaluate
 valueOf P = evaluate (P .header .ranks)
 
 module _ (P : Program) (rank : ℕ) (registers : ℕ → ℕ) (item : ℕ) where
-  -- An evaluated operand, or 8 at the item where it is outside its range.
-  unfoldable pub operand : (ℕ → Bool) → Expression → Result ℕ
+  -- The value of an expression, or 18 at the item where it has none.
+  unfoldable pub value : Expression → Result ℕ
   unfolding valueOf
-  operand test e = do
-    _ ← require (test (valueOf P rank registers e)) operandRange item
-    ok (valueOf P rank registers e)
+  value e = present (valueOf P rank registers e) noValue item
 
-  unfoldable pub cellOperand : Expression → Result ℕ
-  unfolding operand
-  cellOperand = operand (λ a. ltb a (P .header .cells))
+  -- 8 at the item where an own cell, a remote rank, a remote cell or a queue is outside its range.
+  abbrev pub ranged : Bool → Result (Unit {0})
+  ranged test = require test operandRange item
 
   unfoldable pub transfer : (e1 e2 e3 e4 : Expression) → Result Transfer
-  unfolding operand cellOperand
+  unfolding value
   transfer e1 e2 e3 e4 = do
-    own ← cellOperand e1
-    remote ← operand (between 1 (P .header .ranks)) e2
-    cell ← cellOperand e3
-    queue ← operand (λ q. ltb q (P .header .queues)) e4
+    own ← value e1
+    remote ← value e2
+    cell ← value e3
+    queue ← value e4
+    _ ← ranged (ltb own (P .header .cells))
+    _ ← ranged (between 1 (P .header .ranks) remote)
+    _ ← ranged (ltb cell (P .header .cells))
+    _ ← ranged (ltb queue (P .header .queues))
     ok (record { own = address rank own; remote = address remote cell; queue = queue })
 
-  -- What a command asks for, by its rank's registers alone; 8, then 9.
+  -- What a command asks for, by its rank's registers alone: 18 for any of its expressions, then 8 and 9.
   unfoldable pub action : Command → Result Action
-  unfolding valueOf cellOperand transfer
+  unfolding value transfer
   action (load x e1) = do
-    cell ← cellOperand e1
+    cell ← value e1
+    _ ← ranged (ltb cell (P .header .cells))
     ok (loads x cell)
   action (store e1 e2) = do
-    cell ← cellOperand e1
-    ok (stores cell (valueOf P rank registers e2))
-  action (assign x e1) = ok (assigns x (valueOf P rank registers e1))
+    cell ← value e1
+    stored ← value e2
+    _ ← ranged (ltb cell (P .header .cells))
+    ok (stores cell stored)
+  action (assign x e1) = do
+    assigned ← value e1
+    ok (assigns x assigned)
   action (assume e1) = do
-    _ ← require (ltb 0 (valueOf P rank registers e1)) assumeFails item
+    assumed ← value e1
+    _ ← require (ltb 0 assumed) assumeFails item
     ok passes
   -- "read appends (e2, e3, own rank, e1)"
   action (read e1 e2 e3 e4) = do

@@ -1,6 +1,7 @@
--- Refusals (document 01's table): the sixteen numbers by name, and results that are a value or a refusal.
+-- Refusals (document 01's table, and document 02's "New numbers"): the numbers by name, and results that are a value or a refusal.
 use Prim.Native.Nat.{ℕ}
 use mathlib.Core.Bool.{Bool, true, false}
+use mathlib.Core.Option.{Option, some, none}
 use Rattle.model.specs.declared.Refusal.{Refusal}
 
 -- "program ends early (place: its length), or bytes left over (first one)"
@@ -67,6 +68,10 @@ memoryTooShort = 15
 abbrev pub slipForm : ℕ
 slipForm = 16
 
+-- Document 02, #102: "A sum or product above 65,535 or a difference below 0 has no value any more, and neither has an expression holding it."
+abbrev pub noValue : ℕ
+noValue = 18
+
 -- A value, or why there is none.
 pub data Result (A : Type 0) : Type 0 where
   ok : A → Result A
@@ -86,3 +91,8 @@ refuse number place = refused (record { number = number; place = place })
 abbrev pub require : Bool → ℕ → ℕ → Result (Unit {0})
 require true number place = ok tt
 require false number place = refuse number place
+
+-- What is there, and the refusal where there is nothing.
+abbrev pub present : {A : Type 0} → Option A → ℕ → ℕ → Result A
+present (some a) number place = ok a
+present none number place = refuse number place

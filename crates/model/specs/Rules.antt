@@ -1,6 +1,7 @@
 -- Table 1 of the source (document 001, section 2.3), a constructor for each rule. The rules that the source calls similar (store, assign, assume,
 -- read) are written out. To the two pops, which take the head of a queue, document 02's #108 adds two that take "the oldest entry for that rank".
--- The replay has no part in this file.
+-- Of #102, "the replay rules are read with these operators, which the source left open": a rule applies only where its expressions have values. The
+-- replay has no part in this file.
 use Prim.Native.Nat.{ℕ, _≤_, _<_}
 use mathlib.Core.Path.{_≡_}
 use mathlib.Core.List.{List, [], _∷_, _++_, map}
@@ -66,16 +67,20 @@ pub record OldestFor {A : Type 0} (remote : A → ℕ) (n : ℕ) (queue : List A
   pub first : Each (λ x. ¬ (remote x ≡ n)) older
 
 module _ (P : Program) where
-  -- ê: "the evaluation of expression e in memory configuration m"
-  abbrev pub eval : Bare → ℕ → Expression → ℕ
-  eval s r = valueOf P r (s .registers r)
+  -- ê = v: "the evaluation of expression e in memory configuration m", by the registers of rank r, has a value, and it is v.
+  abbrev pub Evaluates : (r : ℕ) → (registers : ℕ → ℕ) → Expression → ℕ → Type 0
+  Evaluates r registers e v = valueOf P r registers e ≡ some v
 
-  -- The operands of a transfer have values in their domains, by the registers of rank r.
-  pub record Operands (r : ℕ) (registers : ℕ → ℕ) (e1 e2 e3 e4 : Expression) : Type 0 where
-    pub own : Cell P (valueOf P r registers e1)
-    pub rank : Rank P (valueOf P r registers e2)
-    pub cell : Cell P (valueOf P r registers e3)
-    pub queue : Queue P (valueOf P r registers e4)
+  -- The operands of a transfer have values in their domains: own cell a, remote rank n, remote cell b and queue q.
+  pub record Operands (r : ℕ) (registers : ℕ → ℕ) (e₁ e₂ e₃ e₄ : Expression) (a n b q : ℕ) : Type 0 where
+    pub own-value : Evaluates r registers e₁ a
+    pub rank-value : Evaluates r registers e₂ n
+    pub cell-value : Evaluates r registers e₃ b
+    pub queue-value : Evaluates r registers e₄ q
+    pub own : Cell P a
+    pub rank : Rank P n
+    pub cell : Cell P b
+    pub queue : Queue P q
 
   -- fa[(r, q) := α · (source, destination)], with the remote rank
   abbrev pub ask : Bare → (r q n : ℕ) → (source destination : Address) → Bare
@@ -99,32 +104,36 @@ module _ (P : Program) where
       }
 
   pub data Step : Bare → List Label → Bare → Type 0 where
-    load : {s : Bare} {r t x q₂ : ℕ} {e : Expression} → Enabled P s r t (Command.load x e) q₂ → Cell P (eval s r e) →
+    load : {s : Bare} {r t x q₂ a : ℕ} {e : Expression} → Enabled P s r t (Command.load x e) q₂ →
+        Evaluates r (s .registers r) e a → Cell P a →
         Step s
-        (command Load r t (readOf (address r (eval s r e)) (s .cells r (eval s r e))) ∷ [])
-        (setRegister (moveTo s r q₂) r x (s .cells r (eval s r e)))
-    store : {s : Bare} {r t q₂ : ℕ} {e₁ e₂ : Expression} → Enabled P s r t (Command.store e₁ e₂) q₂ → Cell P (eval s r e₁) →
+        (command Load r t (readOf (address r a) (s .cells r a)) ∷ [])
+        (setRegister (moveTo s r q₂) r x (s .cells r a))
+    store : {s : Bare} {r t q₂ a v : ℕ} {e₁ e₂ : Expression} → Enabled P s r t (Command.store e₁ e₂) q₂ →
+        Evaluates r (s .registers r) e₁ a → Evaluates r (s .registers r) e₂ v → Cell P a →
         Step s
-        (command Store r t (writeOf (address r (eval s r e₁)) (eval s r e₂)) ∷ [])
-        (setCell (moveTo s r q₂) (address r (eval s r e₁)) (eval s r e₂))
-    assign : {s : Bare} {r t x q₂ : ℕ} {e : Expression} → Enabled P s r t (Command.assign x e) q₂ →
+        (command Store r t (writeOf (address r a) v) ∷ [])
+        (setCell (moveTo s r q₂) (address r a) v)
+    assign : {s : Bare} {r t x q₂ v : ℕ} {e : Expression} → Enabled P s r t (Command.assign x e) q₂ →
+        Evaluates r (s .registers r) e v →
         Step s
         (command Assign r t none ∷ [])
-        (setRegister (moveTo s r q₂) r x (eval s r e))
-    assume : {s : Bare} {r t q₂ : ℕ} {e : Expression} → Enabled P s r t (Command.assume e) q₂ → 0 < eval s r e →
+        (setRegister (moveTo s r q₂) r x v)
+    assume : {s : Bare} {r t q₂ v : ℕ} {e : Expression} → Enabled P s r t (Command.assume e) q₂ →
+        Evaluates r (s .registers r) e v → 0 < v →
         Step s
         (command Assume r t none ∷ [])
         (moveTo s r q₂)
-    read : {s : Bare} {r t q₂ : ℕ} {e₁ e₂ e₃ e₄ : Expression} → Enabled P s r t (Command.read e₁ e₂ e₃ e₄) q₂ →
-        Operands r (s .registers r) e₁ e₂ e₃ e₄ →
+    read : {s : Bare} {r t q₂ a n b q : ℕ} {e₁ e₂ e₃ e₄ : Expression} → Enabled P s r t (Command.read e₁ e₂ e₃ e₄) q₂ →
+        Operands r (s .registers r) e₁ e₂ e₃ e₄ a n b q →
         Step s
         (command Read r t none ∷ [])
-        (ask (moveTo s r q₂) r (eval s r e₄) (eval s r e₂) (address (eval s r e₂) (eval s r e₃)) (address r (eval s r e₁)))
-    write : {s : Bare} {r t q₂ : ℕ} {e₁ e₂ e₃ e₄ : Expression} → Enabled P s r t (Command.write e₁ e₂ e₃ e₄) q₂ →
-        Operands r (s .registers r) e₁ e₂ e₃ e₄ →
+        (ask (moveTo s r q₂) r q n (address n b) (address r a))
+    write : {s : Bare} {r t q₂ a n b q : ℕ} {e₁ e₂ e₃ e₄ : Expression} → Enabled P s r t (Command.write e₁ e₂ e₃ e₄) q₂ →
+        Operands r (s .registers r) e₁ e₂ e₃ e₄ a n b q →
         Step s
         (command Write r t none ∷ [])
-        (ask (moveTo s r q₂) r (eval s r e₄) (eval s r e₂) (address r (eval s r e₁)) (address (eval s r e₂) (eval s r e₃)))
+        (ask (moveTo s r q₂) r q n (address r a) (address n b))
     popa : {s : Bare} {r q : ℕ} {a : Request (Unit {0})} {α : List (Request (Unit {0}))} → Rank P r → Queue P q → s .requests r q ≡ a ∷ α →
         Step s
         (pop Popa r q 0 (readOf (a .source) (cellAt (s .cells) (a .source))) ∷ [])

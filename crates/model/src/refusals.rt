@@ -30,3 +30,5 @@ pub const ORDER_TOO_SHORT: u8 = 14;
 pub const MEMORY_TOO_SHORT: u8 = 15;
 
 pub const SLIP_FORM: u8 = 16;
+
+pub const NO_VALUE: u8 = 18;
