@@ -119,14 +119,14 @@ module _ (P : Program) where
   pub step-taken : (s : Replay) {events : List Label} {last : Bare} {items : List Item} → s .row ≡ 0 → Step P (bare (s .machine)) events last →
       AllRecorded events items → TakesAll P s items last
   unfolding bare kindOf accessOf successor
-  step-taken s row (Step.load enabled cell) (one {i = i} recorded all) =
-      single-taken s row (ap isBar (recorded .kind)) (λ allowed. asks-takes P s i allowed enabled (loading cell) recorded)
-  step-taken s row (Step.store enabled cell) (one {i = i} recorded all) =
-      single-taken s row (ap isBar (recorded .kind)) (λ allowed. asks-takes P s i allowed enabled (storing cell) recorded)
-  step-taken s row (Step.assign enabled) (one {i = i} recorded all) =
-      single-taken s row (ap isBar (recorded .kind)) (λ allowed. asks-takes P s i allowed enabled assigning recorded)
-  step-taken s row (Step.assume enabled test) (one {i = i} recorded all) =
-      single-taken s row (ap isBar (recorded .kind)) (λ allowed. asks-takes P s i allowed enabled (passing test) recorded)
+  step-taken s row (Step.load enabled here cell) (one {i = i} recorded all) =
+      single-taken s row (ap isBar (recorded .kind)) (λ allowed. asks-takes P s i allowed enabled (loading here cell) recorded)
+  step-taken s row (Step.store enabled here stored cell) (one {i = i} recorded all) =
+      single-taken s row (ap isBar (recorded .kind)) (λ allowed. asks-takes P s i allowed enabled (storing here stored cell) recorded)
+  step-taken s row (Step.assign enabled assigned) (one {i = i} recorded all) =
+      single-taken s row (ap isBar (recorded .kind)) (λ allowed. asks-takes P s i allowed enabled (assigning assigned) recorded)
+  step-taken s row (Step.assume enabled assumed test) (one {i = i} recorded all) =
+      single-taken s row (ap isBar (recorded .kind)) (λ allowed. asks-takes P s i allowed enabled (passing assumed test) recorded)
   step-taken s row (Step.read enabled operands) (one {i = i} recorded all) =
       single-taken s row (ap isBar (recorded .kind)) (λ allowed. asks-takes P s i allowed enabled (reading operands) recorded)
   step-taken s row (Step.write enabled operands) (one {i = i} recorded all) =

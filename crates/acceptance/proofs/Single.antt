@@ -27,10 +27,10 @@ use Rattle.acceptance.proofs.Agreement.{agrees-placed, placed-agrees}
 pub asks-step : (P : Program) {s : Bare} {r t q₂ : ℕ} {c : Command} {a : Action} → Enabled P s r t c q₂ → Asks P r (s .registers r) c a →
     isBar (kindOf c) ≡ false → Step P s (command (kindOf c) r t (accessOf r a (s .cells)) ∷ []) (successor P s r a q₂)
 unfolding kindOf accessOf successor
-asks-step P e (loading cell) h = Step.load e cell
-asks-step P e (storing cell) h = Step.store e cell
-asks-step P e assigning h = Step.assign e
-asks-step P e (passing test) h = Step.assume e test
+asks-step P e (loading here cell) h = Step.load e here cell
+asks-step P e (storing here stored cell) h = Step.store e here stored cell
+asks-step P e (assigning assigned) h = Step.assign e assigned
+asks-step P e (passing assumed test) h = Step.assume e assumed test
 asks-step P e (reading operands) h = Step.read e operands
 asks-step P e (writing operands) h = Step.write e operands
 asks-step P e meeting h = absurd (true≢false h)

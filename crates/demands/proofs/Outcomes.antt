@@ -10,13 +10,13 @@ use lib.ListN.{length, getElem?}
 use borrow.Author.Tests.{leb-true, le-leb}
 use Rattle.model.specs.declared.Answer.the-variants.{Order, Ring, Refused}
 use Rattle.model.specs.declared.Refusal.{Refusal}
-use Rattle.model.specs.Refusals.{Result, ok, refused, programLength, orderTooShort, memoryTooShort}
+use Rattle.model.specs.Refusals.{Result, ok, refused, orderTooShort, memoryTooShort}
 use Rattle.model.specs.Bytes.{AreBytes}
 use Rattle.model.specs.Machine.{zeroStart}
 use Rattle.model.specs.Rules.{Rank, Cell}
 use Rattle.model.specs.Orders.{Verdict, ordered, cyclic}
 use Rattle.model.specs.Checks.{accept, verdictOn, lastCells, Accepted, fill, Outcome, listed, answered, Verdicts, checkResultIn, checkResult}
-use Rattle.model.proofs.Laws.{bind-ok, required, ok-injective, refused≢ok, between-true}
+use Rattle.model.proofs.Laws.{bind-ok, required, ok-injective, refused≢ok}
 use Rattle.ordering.proofs.Orders.{TopologicalOrder, Cycle, cycle-length}
 use Rattle.serializability.specs.Claim.{Serializable}
 use Rattle.demands.specs.Entries.{Form, entries, firstEntries}
@@ -109,8 +109,7 @@ module _ (form : Form) (program recorded order cells : List ℕ) (bytes : AreByt
     refused-as s h =
         let same : r ≡ s = cc in
         let tabled = check-tabled zeroStart program recorded (capacity form order) (capacity form cells) .row r is in
-        let row = between-true programLength memoryTooShort (r .number) tabled in
-        rw (← same) (record { low = row .low; high = row .high; same-order = refl; same-cells = refl })
+        rw (← same) (record { tabled = tabled; same-order = refl; same-cells = refl })
 
     refusal-meets : MeetsDemands form program recorded order cells (outcomeIn form order cells (refused r))
     refusal-meets =

@@ -1,4 +1,4 @@
--- Every refusal has a number of document 01's table, of the rows that the check has: what is refused by the whole is refused by a part.
+-- Every refusal has one of the check's numbers: what is refused by the whole is refused by a part.
 use Prim.Native.Nat.{ℕ, zero, suc, _+_, _*_}
 use mathlib.Core.Path.{_≡_, refl}
 use mathlib.Core.Bool.{Bool, true, _&&_}
@@ -12,7 +12,7 @@ use Rattle.model.specs.declared.ItemForm.{ItemForm}
 use Rattle.model.specs.declared.ItemForm.the-variants.{Good, UnknownKind, WrongMap}
 use Rattle.model.specs.Limits.{maxTokens, shortTransitions, maxTransitions, longCount, maxItems}
 use Rattle.model.specs.Refusals.{programLength, programRange, programForm, recordLength, recordRange, recordForm, wrongTransition, operandRange}
-use Rattle.model.specs.Refusals.{assumeFails, emptyQueue, accessDiffers, barrierRow, queuesLeft, orderTooShort, memoryTooShort}
+use Rattle.model.specs.Refusals.{assumeFails, emptyQueue, accessDiffers, barrierRow, queuesLeft, orderTooShort, memoryTooShort, noValue}
 use Rattle.model.specs.Choice.{between, bit, lookup}
 use Rattle.model.specs.Bytes.{Reader, byte, judged}
 use Rattle.model.specs.ItemKinds.{sameKind, Part, command, fetch, delivery, partOf}
@@ -22,19 +22,20 @@ use Rattle.model.specs.Programs.{Program, Transition, Command, load, store, ass
 use Rattle.model.specs.Programs.{headerNumber, countByte, transitionCount, readHeaderIn, readHeader, readFields, readTransition, programReaderIn, readProgramIn, readProgram}
 use Rattle.model.specs.ItemForms.{itemForm, judgedItemForm}
 use Rattle.model.specs.Records.{readItemIn, readItem, recordReaderIn, readRecordIn, readRecord}
-use Rattle.model.specs.Machine.{Start, Request, Delivery, valueOf, operand, cellOperand, transfer, action}
+use Rattle.model.specs.Machine.{Start, Request, Delivery, valueOf, value, ranged, transfer, action}
 use Rattle.model.specs.Replay.{Origin, Replay, Taken, rowAllows, agreesWith, agreed, takeTransition, takeFetch, takeDelivery, takePart, takeItem}
 use Rattle.model.specs.Replay.{afterCommand, afterFetch, afterDelivery, requestFor, deliveryFor, oldest, takeItems, begin, quiet, atEnd, replay}
 use Rattle.model.specs.Checks.{acceptIn, checkResultIn, checkResult}
 use Rattle.model.proofs.Laws.{decided}
-use Rattle.model.proofs.Faults.{Tabled, ok-tabled, refuse-tabled, bind-tabled, require-tabled, whole-tabled}
+use Rattle.model.proofs.Faults.{Tabled, ok-tabled, refuse-tabled, bind-tabled, require-tabled, present-tabled, whole-tabled}
 use Rattle.model.proofs.Faults.{Faults, pure-faults, here-faults, fault-faults, bind-faults, byte-faults, word-faults, judged-faults}
 use Rattle.model.proofs.Faults.{optional-faults, times-faults}
 use Rattle.model.proofs.Records.{item-fields-fault}
+use Rattle.demands.specs.Demands.{isCheckNumber}
 
--- A number of one of the check's rows.
+-- One of the check's numbers.
 abbrev pub CheckRow : ℕ → Type 0
-CheckRow number = between programLength memoryTooShort number ≡ true
+CheckRow number = isCheckNumber number ≡ true
 
 -- The program.
 module _ (registers : ℕ) where
@@ -157,29 +158,37 @@ record-tabled header bytes =
 -- The replay.
 module _ (P : Program) where
   module _ (rank : ℕ) (registers : ℕ → ℕ) (at : ℕ) where
-    operand-tabled : (test : ℕ → Bool) (e : Expression) → Tabled CheckRow (operand P rank registers at test e)
-    unfolding operand
-    operand-tabled test e = bind-tabled (require-tabled (test (valueOf P rank registers e)) operandRange at refl) λ _. ok-tabled _
+    value-tabled : (e : Expression) → Tabled CheckRow (value P rank registers at e)
+    unfolding value
+    value-tabled e = present-tabled (valueOf P rank registers e) noValue at refl
 
-    cell-tabled : (e : Expression) → Tabled CheckRow (cellOperand P rank registers at e)
-    unfolding cellOperand
-    cell-tabled e = operand-tabled (λ a. ltb a (P .header .cells)) e
+    ranged-tabled : (test : Bool) → Tabled CheckRow (ranged P rank registers at test)
+    ranged-tabled test = require-tabled test operandRange at refl
 
     transfer-tabled : (e1 e2 e3 e4 : Expression) → Tabled CheckRow (transfer P rank registers at e1 e2 e3 e4)
     unfolding transfer
     transfer-tabled e1 e2 e3 e4 =
-        bind-tabled (cell-tabled e1) λ own.
-        bind-tabled (operand-tabled (between 1 (P .header .ranks)) e2) λ remote.
-        bind-tabled (cell-tabled e3) λ cell.
-        bind-tabled (operand-tabled (λ q. ltb q (P .header .queues)) e4) λ queue.
+        bind-tabled (value-tabled e1) λ own.
+        bind-tabled (value-tabled e2) λ remote.
+        bind-tabled (value-tabled e3) λ cell.
+        bind-tabled (value-tabled e4) λ queue.
+        bind-tabled (ranged-tabled (ltb own (P .header .cells))) λ _.
+        bind-tabled (ranged-tabled (between 1 (P .header .ranks) remote)) λ _.
+        bind-tabled (ranged-tabled (ltb cell (P .header .cells))) λ _.
+        bind-tabled (ranged-tabled (ltb queue (P .header .queues))) λ _.
         ok-tabled _
 
     action-tabled : (c : Command) → Tabled CheckRow (action P rank registers at c)
     unfolding action
-    action-tabled (load x e1) = bind-tabled (cell-tabled e1) λ cell. ok-tabled _
-    action-tabled (store e1 e2) = bind-tabled (cell-tabled e1) λ cell. ok-tabled _
-    action-tabled (assign x e1) = ok-tabled _
-    action-tabled (assume e1) = bind-tabled (require-tabled (ltb 0 (valueOf P rank registers e1)) assumeFails at refl) λ _. ok-tabled _
+    action-tabled (load x e1) = bind-tabled (value-tabled e1) λ cell. bind-tabled (ranged-tabled (ltb cell (P .header .cells))) λ _. ok-tabled _
+    action-tabled (store e1 e2) =
+        bind-tabled (value-tabled e1) λ cell.
+        bind-tabled (value-tabled e2) λ stored.
+        bind-tabled (ranged-tabled (ltb cell (P .header .cells))) λ _.
+        ok-tabled _
+    action-tabled (assign x e1) = bind-tabled (value-tabled e1) λ assigned. ok-tabled _
+    action-tabled (assume e1) =
+        bind-tabled (value-tabled e1) λ assumed. bind-tabled (require-tabled (ltb 0 assumed) assumeFails at refl) λ _. ok-tabled _
     action-tabled (read e1 e2 e3 e4) = bind-tabled (transfer-tabled e1 e2 e3 e4) λ t. ok-tabled _
     action-tabled (write e1 e2 e3 e4) = bind-tabled (transfer-tabled e1 e2 e3 e4) λ t. ok-tabled _
     action-tabled bar = ok-tabled _

@@ -2,15 +2,18 @@
 -- entries as numbers or as bytes; `o` is the answer with what the two lists hold then.
 use Prim.Native.Nat.{ℕ, _+_, _-_, _*_, _≤_}
 use mathlib.Core.Path.{_≡_}
+use mathlib.Core.Bool.{Bool, true, _||_}
 use mathlib.Core.List.{List}
 use mathlib.Core.Logic.{_↔_}
 use mathlib.Core.Option.{some}
+use lib.Dec.{eqb}
 use lib.ListN.{length, drop, getElem?}
 use Rattle.model.specs.declared.Answer.{Answer}
 use Rattle.model.specs.declared.Answer.the-variants.{Order, Ring, Refused}
 use Rattle.model.specs.declared.Item.{Item}
 use Rattle.model.specs.declared.Refusal.{Refusal}
-use Rattle.model.specs.Refusals.{ok, programLength, memoryTooShort}
+use Rattle.model.specs.Refusals.{ok, programLength, memoryTooShort, noValue}
+use Rattle.model.specs.Choice.{between}
 use Rattle.model.specs.Programs.{Program, readProgram}
 use Rattle.model.specs.Records.{readRecord}
 use Rattle.model.specs.Machine.{Start, zeroStart}
@@ -76,10 +79,13 @@ pub record Untouched (form : Form) (count : ℕ) (before after : List ℕ) : Typ
   pub size : length after ≡ length before
   pub beyond : drop (width form * count) after ≡ drop (width form * count) before
 
--- "one number of document 01's table with its place, and lent memory holds what it held": of the table's rows the check has 1 to 15.
+-- The check's numbers: of the table's rows 1 to 15, and document 02's 18.
+abbrev pub isCheckNumber : ℕ → Bool
+isCheckNumber number = between programLength memoryTooShort number || eqb number noValue
+
+-- "one number of document 01's table with its place, and lent memory holds what it held".
 pub record RefusedAs (order cells : List ℕ) (o : Outcome) (r : Refusal) : Type 0 where
-  pub low : programLength ≤ r .number
-  pub high : r .number ≤ memoryTooShort
+  pub tabled : isCheckNumber (r .number) ≡ true
   pub same-order : o .order ≡ order
   pub same-cells : o .cells ≡ cells
 

@@ -20,10 +20,10 @@ Fits P meets kind = kind ≡ Bar
 
 pub action-fits : {P : Program} {r : ℕ} {registers : ℕ → ℕ} {c : Command} {a : Action} → Asks P r registers c a → Fits P a (kindOf c)
 unfolding kindOf
-action-fits (loading cell) = (refl, refl)
-action-fits (storing cell) = (refl, refl)
-action-fits assigning = (refl, refl)
-action-fits (passing test) = (refl, refl)
+action-fits (loading here cell) = (refl, refl)
+action-fits (storing here stored cell) = (refl, refl)
+action-fits (assigning assigned) = (refl, refl)
+action-fits (passing assumed test) = (refl, refl)
 action-fits (reading operands) = (refl, refl, operands .queue)
 action-fits (writing operands) = (refl, refl, operands .queue)
 action-fits meeting = refl

@@ -158,10 +158,10 @@ pub record EventIn (header : Header) (e : Event) : Type 0 where
 command-inside : (P : Program) (rank : ℕ) (registers : ℕ → ℕ) (cells : ℕ → ℕ → ℕ) → Within 1 (P .header .ranks) rank →
     {c : Command} {a : Action} → Asks P rank registers c a → AccessIn (P .header) (accessOf rank a cells)
 unfolding accessOf
-command-inside P rank registers cells r (loading cell) = record { rank = r; cell = cell }
-command-inside P rank registers cells r (storing cell) = record { rank = r; cell = cell }
-command-inside P rank registers cells r assigning = tt
-command-inside P rank registers cells r (passing test) = tt
+command-inside P rank registers cells r (loading here cell) = record { rank = r; cell = cell }
+command-inside P rank registers cells r (storing here stored cell) = record { rank = r; cell = cell }
+command-inside P rank registers cells r (assigning assigned) = tt
+command-inside P rank registers cells r (passing assumed test) = tt
 command-inside P rank registers cells r (reading operands) = tt
 command-inside P rank registers cells r (writing operands) = tt
 command-inside P rank registers cells r meeting = tt

@@ -169,10 +169,10 @@ module _ {P : Program} (start : Start) (local : ℕ → ℕ → Local) (done : L
 pub asks-nothing : {P : Program} {rank : ℕ} {registers : ℕ → ℕ} {c : Command} {a : Action} → isTransfer (kindOf c) ≡ false →
     Asks P rank registers c a → (origin : Origin) (requests : Requests) → requestsAfter rank origin a requests ≡ requests
 unfolding kindOf requestsAfter
-asks-nothing h (loading cell) origin requests = refl
-asks-nothing h (storing cell) origin requests = refl
-asks-nothing h assigning origin requests = refl
-asks-nothing h (passing test) origin requests = refl
+asks-nothing h (loading here cell) origin requests = refl
+asks-nothing h (storing here stored cell) origin requests = refl
+asks-nothing h (assigning assigned) origin requests = refl
+asks-nothing h (passing assumed test) origin requests = refl
 asks-nothing h (reading operands) origin requests = absurd (true≢false h)
 asks-nothing h (writing operands) origin requests = absurd (true≢false h)
 asks-nothing h meeting origin requests = refl

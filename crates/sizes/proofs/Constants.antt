@@ -1,18 +1,19 @@
 -- The constants of a program that was read from bytes fit sixteen bits, by a rule for each way in which readers are put together; so what its
--- expressions come to fits too, since an operator's value is taken modulo 65,536 or is 0 or 1.
-use Prim.Native.Nat.{ℕ, zero, suc, _<_}
-use mathlib.Core.Path.{_≡_}
+-- expressions come to fits too, since an operator has no value outside the range.
+use Prim.Native.Nat.{ℕ, zero, suc, _+_, _*_, _<_}
+use mathlib.Core.Path.{_≡_, subst}
 use mathlib.Core.Bool.{Bool, true, false}
 use mathlib.Core.List.{List}
 use mathlib.Core.Option.{Option, some, none}
 use native.Mathlib.Omega.{arith}
-use lib.Dec.{ltb, eqb}
+use lib.Dec.{ltb, leb, eqb}
+use borrow.Author.Tests.{ltb-true}
 use Rattle.model.specs.declared.Header.{Header}
 use Rattle.model.specs.Limits.{maxTokens, wordValues}
 use Rattle.model.specs.Refusals.{ok, programLength, programRange, programForm}
 use Rattle.model.specs.Choice.{bit, lookup, Each, all, one}
 use Rattle.model.specs.Bytes.{AreBytes, Reader, _>>=_, here, fault, byte, judged, optional}
-use Rattle.model.specs.Expressions.{Operator, sum, difference, product, equal, less, truth, operate, evaluate}
+use Rattle.model.specs.Expressions.{Operator, sum, difference, product, equal, less, truth, inRange, operate, operated, evaluate}
 use Rattle.model.specs.Expressions.{Expression, constant, register, ownRank, rankCount, apply}
 use Rattle.model.specs.Expressions.{Token, constantToken, registerToken, ownRankToken, rankCountToken, operatorToken, tokens}
 use Rattle.model.specs.Expressions.{Counted, noTokenLeft, afterToken, onToken, readExpression, expression}
@@ -35,22 +36,36 @@ truth-fits : (t : Bool) → truth t < wordValues
 truth-fits true = omega arith
 truth-fits false = omega arith
 
-operate-fits : (o : Operator) (a b : ℕ) → operate o a b < wordValues
-unfolding operate
-operate-fits sum a b = omega arith
-operate-fits difference a b = omega arith
-operate-fits product a b = omega arith
-operate-fits equal a b = truth-fits (eqb a b)
-operate-fits less a b = truth-fits (ltb a b)
+-- What is there, if anything, fits.
+abbrev ThereFits : Option ℕ → Type 0
+ThereFits (some v) = v < wordValues
+ThereFits none = Unit {0}
 
-pub evaluate-fits : (ranks rank : ℕ) (registers : ℕ → ℕ) → ranks < wordValues → rank < wordValues → ((i : ℕ) → registers i < wordValues) →
-    (e : Expression) → ConstantsFit e → evaluate ranks rank registers e < wordValues
-unfolding evaluate ConstantsFit
-evaluate-fits ranks rank registers few low held (constant n) fits = fits
-evaluate-fits ranks rank registers few low held (register i) fits = held i
-evaluate-fits ranks rank registers few low held ownRank fits = low
-evaluate-fits ranks rank registers few low held rankCount fits = few
-evaluate-fits ranks rank registers few low held (apply o a b) fits = operate-fits o _ _
+range-fits : (n : ℕ) → ThereFits (inRange n)
+range-fits n = decided (ltb n wordValues) (λ t. rw t (ltb-true n wordValues t)) (λ t. rw t tt)
+
+operated-fits : (o : Operator) (a b : Option ℕ) → ThereFits a → ThereFits (operated o a b)
+unfolding operated operate
+operated-fits sum (some a) (some b) fits = range-fits (a + b)
+operated-fits difference (some a) (some b) fits = decided (leb b a) (λ t. rw t (omega (arith, fits))) (λ t. rw t tt)
+operated-fits product (some a) (some b) fits = range-fits (a * b)
+operated-fits equal (some a) (some b) fits = truth-fits (eqb a b)
+operated-fits less (some a) (some b) fits = truth-fits (ltb a b)
+operated-fits o (some a) none fits = tt
+operated-fits o none b fits = tt
+
+module _ (ranks rank : ℕ) (registers : ℕ → ℕ) (few : ranks < wordValues) (low : rank < wordValues)
+    (held : (i : ℕ) → registers i < wordValues) where
+  there-fits : (e : Expression) → ConstantsFit e → ThereFits (evaluate ranks rank registers e)
+  unfolding evaluate ConstantsFit
+  there-fits (constant n) fits = fits
+  there-fits (register i) fits = held i
+  there-fits ownRank fits = low
+  there-fits rankCount fits = few
+  there-fits (apply o a b) fits = operated-fits o (evaluate ranks rank registers a) (evaluate ranks rank registers b) (there-fits a (fits .0))
+
+  pub evaluate-fits : (e : Expression) → ConstantsFit e → {v : ℕ} → evaluate ranks rank registers e ≡ some v → v < wordValues
+  evaluate-fits e fits h = subst ThereFits h (there-fits e fits)
 
 -- A command whose value, if it has one, has such constants; and a row of the table that makes such commands.
 unfoldable pub ValueFits : Command → Type 0

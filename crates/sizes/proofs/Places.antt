@@ -7,42 +7,50 @@ use native.Mathlib.Omega.{arith}
 use lib.Dec.{ltb, eqb}
 use lib.ListN.{length, getElem?}
 use Rattle.model.specs.declared.Item.{Item}
-use Rattle.model.specs.Refusals.{wrongTransition, operandRange, assumeFails, emptyQueue, accessDiffers, barrierRow, queuesLeft}
+use Rattle.model.specs.Refusals.{wrongTransition, operandRange, assumeFails, emptyQueue, accessDiffers, barrierRow, queuesLeft, noValue}
 use Rattle.model.specs.Choice.{between}
 use Rattle.model.specs.ItemKinds.{sameKind, Part, command, fetch, delivery, partOf}
 use Rattle.model.specs.Expressions.{Expression}
 use Rattle.model.specs.Programs.{Program, Transition, Command, load, store, assign, assume, read, write, bar, kindOf}
-use Rattle.model.specs.Machine.{Start, Request, Delivery, valueOf, operand, cellOperand, transfer, action}
+use Rattle.model.specs.Machine.{Start, Request, Delivery, valueOf, value, ranged, transfer, action}
 use Rattle.model.specs.Replay.{Origin, Replay, Taken, rowAllows, agreesWith, agreed, takeTransition, takeFetch, takeDelivery, takePart, takeItem}
 use Rattle.model.specs.Replay.{afterCommand, afterFetch, afterDelivery, requestFor, deliveryFor, oldest, takeItems, begin, quiet, atEnd, replay}
-use Rattle.model.proofs.Places.{Placed, placed-ok, placed-refuse, placed-bind, placed-later, placed-require}
+use Rattle.model.proofs.Places.{Placed, placed-ok, placed-refuse, placed-bind, placed-later, placed-require, placed-present}
 
 -- An item is refused at its number.
 module _ (P : Program) (at : ℕ) where
   module _ (rank : ℕ) (registers : ℕ → ℕ) where
-    operand-placed : (test : ℕ → Bool) (e : Expression) → Placed at (operand P rank registers at test e)
-    unfolding operand
-    operand-placed test e = placed-bind (placed-require (test (valueOf P rank registers e)) operandRange at) λ _ _. placed-ok _
+    value-placed : (e : Expression) → Placed at (value P rank registers at e)
+    unfolding value
+    value-placed e = placed-present (valueOf P rank registers e) noValue at
 
-    cell-placed : (e : Expression) → Placed at (cellOperand P rank registers at e)
-    unfolding cellOperand
-    cell-placed e = operand-placed (λ a. ltb a (P .header .cells)) e
+    ranged-placed : (test : Bool) → Placed at (ranged P rank registers at test)
+    ranged-placed test = placed-require test operandRange at
 
     transfer-placed : (e1 e2 e3 e4 : Expression) → Placed at (transfer P rank registers at e1 e2 e3 e4)
     unfolding transfer
     transfer-placed e1 e2 e3 e4 =
-        placed-bind (cell-placed e1) λ own _.
-        placed-bind (operand-placed (between 1 (P .header .ranks)) e2) λ remote _.
-        placed-bind (cell-placed e3) λ cell _.
-        placed-bind (operand-placed (λ q. ltb q (P .header .queues)) e4) λ queue _.
+        placed-bind (value-placed e1) λ own _.
+        placed-bind (value-placed e2) λ remote _.
+        placed-bind (value-placed e3) λ cell _.
+        placed-bind (value-placed e4) λ queue _.
+        placed-bind (ranged-placed (ltb own (P .header .cells))) λ _ _.
+        placed-bind (ranged-placed (between 1 (P .header .ranks) remote)) λ _ _.
+        placed-bind (ranged-placed (ltb cell (P .header .cells))) λ _ _.
+        placed-bind (ranged-placed (ltb queue (P .header .queues))) λ _ _.
         placed-ok _
 
     action-placed : (c : Command) → Placed at (action P rank registers at c)
     unfolding action
-    action-placed (load x e1) = placed-bind (cell-placed e1) λ cell _. placed-ok _
-    action-placed (store e1 e2) = placed-bind (cell-placed e1) λ cell _. placed-ok _
-    action-placed (assign x e1) = placed-ok _
-    action-placed (assume e1) = placed-bind (placed-require (ltb 0 (valueOf P rank registers e1)) assumeFails at) λ _ _. placed-ok _
+    action-placed (load x e1) = placed-bind (value-placed e1) λ cell _. placed-bind (ranged-placed (ltb cell (P .header .cells))) λ _ _. placed-ok _
+    action-placed (store e1 e2) =
+        placed-bind (value-placed e1) λ cell _.
+        placed-bind (value-placed e2) λ stored _.
+        placed-bind (ranged-placed (ltb cell (P .header .cells))) λ _ _.
+        placed-ok _
+    action-placed (assign x e1) = placed-bind (value-placed e1) λ assigned _. placed-ok _
+    action-placed (assume e1) =
+        placed-bind (value-placed e1) λ assumed _. placed-bind (placed-require (ltb 0 assumed) assumeFails at) λ _ _. placed-ok _
     action-placed (read e1 e2 e3 e4) = placed-bind (transfer-placed e1 e2 e3 e4) λ t _. placed-ok _
     action-placed (write e1 e2 e3 e4) = placed-bind (transfer-placed e1 e2 e3 e4) λ t _. placed-ok _
     action-placed bar = placed-ok _

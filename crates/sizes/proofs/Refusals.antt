@@ -2,17 +2,21 @@
 -- within the bytes that they are allowed, and the replay at an item.
 use Prim.Native.Nat.{ℕ, _≤_}
 use mathlib.Core.Path.{_≡_}
+use mathlib.Core.Bool.{true}
 use mathlib.Core.List.{List}
 use native.Mathlib.Omega.{arith}
+use borrow.Author.Tests.{eqb-true}
 use Rattle.model.specs.declared.Header.{Header}
 use Rattle.model.specs.declared.Refusal.{Refusal}
-use Rattle.model.specs.Refusals.{refused, programLength, recordLength, memoryTooShort}
+use Rattle.model.specs.Refusals.{refused, programLength, recordLength, memoryTooShort, noValue}
+use Rattle.model.specs.Choice.{between}
 use Rattle.model.specs.Programs.{readProgramIn, readProgram}
 use Rattle.model.specs.Records.{readRecordIn, readRecord}
 use Rattle.model.specs.Machine.{Start}
 use Rattle.model.specs.Checks.{acceptIn, accept, checkResultIn}
-use Rattle.model.proofs.Laws.{between-true}
+use Rattle.model.proofs.Laws.{decided, between-true, or-true}
 use Rattle.record_facts.proofs.Bounds.{read-few}
+use Rattle.demands.specs.Demands.{isCheckNumber}
 use Rattle.demands.proofs.Refusals.{check-tabled}
 use Rattle.sizes.specs.Sizes.{maxProgramBytes, maxRecordBytes}
 use Rattle.model.proofs.Places.{Placed, placed-ok, placed-bind, placed-later}
@@ -22,8 +26,14 @@ use Rattle.sizes.proofs.Starts.{program-takes, record-takes}
 
 -- A refusal as a program and a record can have it.
 pub record RefusalFits (r : Refusal) : Type 0 where
-  pub number : r .number ≤ memoryTooShort
+  pub number : r .number ≤ noValue
   pub place : r .place ≤ maxProgramBytes
+
+number-fits : (number : ℕ) → isCheckNumber number ≡ true → number ≤ noValue
+number-fits number tabled =
+    decided (between programLength memoryTooShort number)
+    (λ t. omega (arith, between-true programLength memoryTooShort number t .high))
+    (λ t. omega (arith, eqb-true number noValue (or-true (between programLength memoryTooShort number) _ t tabled)))
 
 program-placed : (bytes : List ℕ) → Placed maxProgramBytes (readProgram bytes)
 unfolding readProgramIn
@@ -46,6 +56,6 @@ module _ (start : Start) (program recorded : List ℕ) where
   unfolding checkResultIn
   refusal-fits r h =
       record {
-        number = between-true _ _ _ (check-tabled start program recorded 0 0 .row r (rw h)) .high;
+        number = number-fits (r .number) (check-tabled start program recorded 0 0 .row r (rw h));
         place = accept-placed .place r h;
       }

@@ -78,10 +78,10 @@ module _ (P : Program) (few : Fits (P .header .ranks)) where
   module _ (rank : ℕ) (registers : ℕ → ℕ) (low : Fits rank) (held : (i : ℕ) → Fits (registers i)) where
     asked-fits : {c : Command} {a : Action} → ValueFits c → Asks P rank registers c a → ActionFits a
     unfolding ValueFits valueOf
-    asked-fits fits (loading cell) = tt
-    asked-fits fits (storing {e₂ = e} cell) = evaluate-fits (P .header .ranks) rank registers few low held e fits
-    asked-fits fits (assigning {e = e}) = evaluate-fits (P .header .ranks) rank registers few low held e fits
-    asked-fits fits (passing test) = tt
+    asked-fits fits (loading here cell) = tt
+    asked-fits fits (storing {e₂ = e} here stored cell) = evaluate-fits (P .header .ranks) rank registers few low held e fits stored
+    asked-fits fits (assigning {e = e} assigned) = evaluate-fits (P .header .ranks) rank registers few low held e fits assigned
+    asked-fits fits (passing assumed test) = tt
     asked-fits fits (reading operands) = tt
     asked-fits fits (writing operands) = tt
     asked-fits fits meeting = tt
