@@ -10,7 +10,7 @@ use Rattle.model.specs.declared.Refusal.{Refusal}
 use Rattle.model.specs.Refusals.{Result, programLength, programForm}
 use Rattle.model.specs.Choice.{lookup}
 use Rattle.model.specs.Bytes.{Found, Reader, byte}
-use Rattle.model.specs.Expressions.{Counted, tokens, afterToken, onToken, readExpression, operate, evaluate}
+use Rattle.model.specs.Expressions.{Counted, tokens, afterToken, onToken, readExpression, operated, evaluate}
 use Rattle.model.proofs.Bytes.{judged-ok}
 use Rattle.fields.specs.declared.Field.{Field}
 use Rattle.fields.specs.declared.Field.the-variants.{Read, Refused}
@@ -20,11 +20,12 @@ use Rattle.expressions.specs.declared.tokens.Operand.{Operand}
 use Rattle.expressions.specs.declared.tokens.Operator.{Operator}
 use Rattle.expressions.specs.declared.tokens.Token as Token
 use Rattle.expressions.specs.declared.tokens.Token.{Token}
+use Rattle.expressions.specs.declared.value.Value.{Value}
 use Rattle.expressions.specs.declared.Evaluated as Evaluated
 use Rattle.expressions.specs.declared.Evaluated.{Evaluated}
-use Rattle.expressions.specs.Values.{optionToken, operandToken, operatorOf, evaluated, tokenByte}
+use Rattle.expressions.specs.Values.{optionToken, operandToken, operatorOf, evaluated, optionIn, valueIn, registerOf, tokenByte}
 use Rattle.expressions.proofs.Expressions.{expression-falls, same-depth, by-token}
-use Rattle.expressions.proofs.Values.{evaluated-found, evaluated-refused}
+use Rattle.expressions.proofs.Values.{value-told, evaluated-found, evaluated-refused}
 
 -- A token's byte that was read had a token left for it.
 pub some-left : (left : ℕ) (bytes : List ℕ) (at : ℕ) {x : Field} {v next : ℕ} →
@@ -69,7 +70,7 @@ module _ (header : Header) (rank : ℕ) (registers : List ℕ) (left : ℕ) (byt
       unfolding evaluated onToken afterToken
       first-refused q₁ = rw (at-token, t, evaluated-refused header rank registers (readAt (left - 1) next) p₁ q₁) q₁
 
-      module _ {a middle rest : ℕ} (q₁ : first ≡ Evaluated.the-variants.Value a middle rest) where
+      module _ {a : Value} {middle rest : ℕ} (q₁ : first ≡ Evaluated.the-variants.Read a middle rest) where
         -- The first operand took a token, so the second has fewer.
         pub fewer : rest < left
         fewer =
@@ -87,10 +88,11 @@ module _ (header : Header) (rank : ℕ) (registers : List ℕ) (left : ℕ) (byt
               let (e, m, d) = evaluated-found header rank registers (readAt (left - 1) next) p₁ q₁ in
               rw (at-token, t, m, alone, evaluated-refused header rank registers (readAt rest middle) p₂ q₂) q₂
 
-          pub both : {b end fewest y : ℕ} → second ≡ Evaluated.the-variants.Value b end fewest → y ≡ operate (operatorOf o) a b →
-              Evaluated.the-variants.Value y end fewest ≡ whole
+          pub both : {b y : Value} {end fewest : ℕ} → second ≡ Evaluated.the-variants.Read b end fewest →
+              y ≡ valueIn (operated (operatorOf o) (optionIn a) (optionIn b)) → Evaluated.the-variants.Read y end fewest ≡ whole
           unfolding evaluated onToken afterToken evaluate
           both q₂ h =
               let (e, m, d) = evaluated-found header rank registers (readAt (left - 1) next) p₁ q₁ in
               let (e′, m′, d′) = evaluated-found header rank registers (readAt rest middle) p₂ q₂ in
-              rw (at-token, t, m, alone, m′, h, d, d′)
+              let value = evaluate (header .ranks) rank (registerOf registers) in
+              rw (at-token, t, m, alone, m′, h, value-told (value e) d, value-told (value e′) d′)

@@ -23,6 +23,8 @@ use Rattle.model.specs.Expressions.{
   less,
   evaluate,
 }
+use Rattle.expressions.specs.declared.value.Value.{Value}
+use Rattle.expressions.specs.declared.value.Value.the-variants.{Number, Missing}
 use Rattle.expressions.specs.declared.Evaluated as Evaluated
 use Rattle.expressions.specs.declared.Evaluated.{Evaluated}
 use Rattle.expressions.specs.declared.Valued as Valued
@@ -65,16 +67,25 @@ tokenByte left = judged (λ _. ltb 0 left) programForm (byte programLength)
 abbrev pub registerOf : List ℕ → ℕ → ℕ
 registerOf registers i = getD registers i 0
 
+-- A value as the definition has it, and as the code has it.
+abbrev pub optionIn : Value → Option ℕ
+optionIn (Number n) = some n
+optionIn Missing = none
+
+abbrev pub valueIn : Option ℕ → Value
+valueIn (some n) = Number n
+valueIn none = Missing
+
 module _ (header : Header) (rank : ℕ) (registers : List ℕ) where
   -- The value of an expression in a rank with these registers.
-  abbrev pub valueOf : Expression → ℕ
-  valueOf = evaluate (header .ranks) rank (registerOf registers)
+  abbrev pub valueOf : Expression → Value
+  valueOf e = valueIn (evaluate (header .ranks) rank (registerOf registers) e)
 
   -- The answer, by what was read: its value, the place after it, and the tokens left; or the refusal.
   unfoldable pub evaluated : Result (Found Counted) → Evaluated
-  evaluated (ok f) = Evaluated.the-variants.Value (valueOf (f .value .expression)) (f .next) (f .value .left)
+  evaluated (ok f) = Evaluated.the-variants.Read (valueOf (f .value .expression)) (f .next) (f .value .left)
   evaluated (refused r) = Evaluated.the-variants.Refused r
 
   unfoldable pub valued : Result (Found Expression) → Valued
-  valued (ok f) = Valued.the-variants.Value (valueOf (f .value)) (f .next)
+  valued (ok f) = Valued.the-variants.Read (valueOf (f .value)) (f .next)
   valued (refused r) = Valued.the-variants.Refused r

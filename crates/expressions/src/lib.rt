@@ -1,11 +1,13 @@
 // Expressions in prefix form, read and evaluated at once: a token's operands are expressions again, and the count of tokens that may still be read
 // falls with each. The program's reader drops the value; the replay takes it.
 mod tokens;
+pub mod value;
 
 use crate::tokens::Operand;
 use crate::tokens::Token;
-use crate::tokens::apply;
+use crate::tokens::operated;
 use crate::tokens::token_of;
+use crate::value::Value;
 use fields::Field;
 use fields::below;
 use fields::read_byte;
@@ -27,13 +29,13 @@ ghost use Rattle.expressions.specs.Values.{operandToken, evaluated, numb
 
 // An expression's value in a rank and the place after it, or the refusal.
 pub enum Valued {
-    Value(u16, usize),
+    Read(Value, usize),
     Refused(Refusal),
 }
 
 // The same, with how many tokens may still be read of the fifteen.
 enum Evaluated {
-    Value(u16, usize, u16),
+    Read(Value, usize, u16),
     Refused(Refusal),
 }
 
@@ -99,17 +101,18 @@ fn evaluate_operand(
             let Field::Read(value, next) = read else {
                 return Evaluated::Refused(read.refusal());
             };
-            Evaluated::Value(value, next, left)
+            Evaluated::Read(Value::Number(value), next, left)
         }
         Operand::Register => {
             let read = read_below(bytes, at, header.registers);
             let Field::Read(index, next) = read else {
                 return Evaluated::Refused(read.refusal());
             };
-            Evaluated::Value(register_value(registers, index), next, left)
+            let value = register_value(registers, index);
+            Evaluated::Read(Value::Number(value), next, left)
         }
-        Operand::OwnRank => Evaluated::Value(rank, at, left),
-        Operand::RankCount => Evaluated::Value(header.ranks, at, left),
+        Operand::OwnRank => Evaluated::Read(Value::Number(rank), at, left),
+        Operand::RankCount => Evaluated::Read(Value::Number(header.ranks), at, left),
     }
 }
 
@@ -136,14 +139,14 @@ fn evaluate_tokens(
         }
         Token::Operator(operator) => {
             let first = evaluate_tokens(bytes, next, left - 1, header, rank, registers);
-            let Evaluated::Value(a, middle, rest) = first else {
+            let Evaluated::Read(a, middle, rest) = first else {
                 return first;
             };
             let second = evaluate_tokens(bytes, middle, rest, header, rank, registers);
-            let Evaluated::Value(b, end, fewer) = second else {
+            let Evaluated::Read(b, end, fewer) = second else {
                 return second;
             };
-            Evaluated::Value(apply(operator, a, b), end, fewer)
+            Evaluated::Read(operated(operator, a, b), end, fewer)
         }
         Token::Unknown => Evaluated::Refused(Refusal {
             number: PROGRAM_FORM,
@@ -164,7 +167,7 @@ pub fn evaluate(
 {
     let read = evaluate_tokens(bytes, at, TOKENS as u16, header, rank, &registers);
     match read {
-        Evaluated::Value(value, next, _) => Valued::Value(value, next),
+        Evaluated::Read(value, next, _) => Valued::Read(value, next),
         Evaluated::Refused(refusal) => Valued::Refused(refusal),
     }
 }

@@ -1,10 +1,10 @@
 // The tables of tokens: what a byte says, and what an operator does.
-use std::num::wrapping_add_u16;
-use std::num::wrapping_sub_u16;
+use crate::value::Value;
 ghost use mathlib.Core.Path.{_≡_};
 ghost use Rattle.model.specs.Choice.{lookup};
-ghost use Rattle.model.specs.Expressions.{operate, tokens};
-ghost use Rattle.expressions.specs.Values.{optionToken, operatorOf};
+ghost use Rattle.model.specs.Expressions as Expressions;
+ghost use Rattle.model.specs.Expressions.{inRange, operate, tokens};
+ghost use Rattle.expressions.specs.Values.{optionToken, operatorOf, valueIn, optionIn};
 
 // "Values are unsigned 16-bit numbers": there are so many of them.
 const VALUES: u32 = 65536;
@@ -51,15 +51,45 @@ pub fn token_of(byte: u16) -> Token
     }
 }
 
-// "Sum, difference and product are taken modulo 65,536; 13 and 14 give 1 or 0."
-pub fn apply(operator: Operator, a: u16, b: u16) -> u16
-    ensures { λ r. ⌜ r ≡ operate (operatorOf operator) a b ⌝ }
+// A number, if it is a value.
+fn in_range(number: u32) -> Value
+    ensures { λ r. ⌜ r ≡ valueIn (inRange number) ⌝ }
+{
+    if number < VALUES {
+        Value::Number(number as u16)
+    } else {
+        Value::Missing
+    }
+}
+
+// What an operator makes of two numbers: "A sum or product above 65,535 or a difference below 0 has no value any more"; "13 and 14 give 1 or 0."
+fn apply(operator: Operator, a: u16, b: u16) -> Value
+    ensures { λ r. ⌜ r ≡ valueIn (operate (operatorOf operator) a b) ⌝ }
 {
     match operator {
-        Operator::Sum => wrapping_add_u16(a, b),
-        Operator::Difference => wrapping_sub_u16(a, b),
-        Operator::Product => ((a as u32) * (b as u32) % VALUES) as u16,
-        Operator::Equal => (a == b) as u16,
-        Operator::Less => (a < b) as u16,
+        Operator::Sum => in_range((a as u32) + (b as u32)),
+        Operator::Difference => {
+            if b <= a {
+                Value::Number(a - b)
+            } else {
+                Value::Missing
+            }
+        }
+        Operator::Product => in_range((a as u32) * (b as u32)),
+        Operator::Equal => Value::Number((a == b) as u16),
+        Operator::Less => Value::Number((a < b) as u16),
     }
+}
+
+// What an operator makes of its operands' values: "and neither has an expression holding it".
+pub fn operated(operator: Operator, first: Value, second: Value) -> Value
+    ensures { λ r. ⌜ r ≡ valueIn (Expressions.operated (operatorOf operator) (optionIn first) (optionIn second)) ⌝ }
+{
+    let Value::Number(a) = first else {
+        return Value::Missing;
+    };
+    let Value::Number(b) = second else {
+        return Value::Missing;
+    };
+    apply(operator, a, b)
 }

@@ -8,7 +8,7 @@ use borrow.Fn.PlainCycle.{Measures, is, falls, and}
 use Rattle.fields.proofs.Field.refusal.Reads as refusal-reads
 use Rattle.expressions.proofs.evaluate_operand.Reads as evaluate-operand-reads
 use Rattle.expressions.proofs.read_token.Reads as read-token-reads
-use Rattle.expressions.proofs.tokens.apply.Reads as apply-reads
+use Rattle.expressions.proofs.tokens.operated.Reads as operated-reads
 use Rattle.expressions.proofs.tokens.token_of.Reads as token-of-reads
 use Rattle.expressions.proofs.evaluate_tokens.Reads as reads
 use Rattle.expressions.proofs.evaluate_tokens.Kinds as kinds
@@ -40,8 +40,8 @@ claims t = (
   evaluate-operand-reads.Learnt,
   below t,
   reads.Post,
-  apply-reads.Asked,
-  apply-reads.Learnt,
+  operated-reads.Asked,
+  operated-reads.Learnt,
 )
 
 module _ (t : ℕ) where
@@ -130,7 +130,7 @@ module _ (t : ℕ) where
       let read = token .before .before in
       both _ _ _ _ _ _ (read .before .before .read-token .ensures) (read .read .given .1) _ (token .token-of .ensures)
       (first .before .before .token2 .given .1) (first .evaluate-tokens .ensures) (second .before .before .first .given .1)
-      (second .evaluate-tokens2 .ensures) (found .second .given .1) (c .apply .ensures)
+      (second .evaluate-tokens2 .ensures) (found .second .given .1) (c .operated .ensures)
 
   unknown-token : lts.Need-returns-6 (claims t) (here t) reads.Post
   unknown-token c =
