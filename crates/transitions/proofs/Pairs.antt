@@ -8,36 +8,54 @@ use Rattle.model.specs.Refusals.{Result, ok, refused, _>>=_}
 use Rattle.model.specs.Bytes.{Found, Reader, found}
 use Rattle.model.specs.Expressions.{Expression}
 use Rattle.model.specs.declared.Header.{Header}
-use Rattle.model.proofs.Laws.{bind-ok, ok-injective, refused≢ok}
+use Rattle.model.proofs.Laws.{bind-ok, ok-injective, refused≢ok, told}
 use Rattle.fields.specs.declared.Field.{Field}
 use Rattle.fields.specs.declared.Field as Field
 use Rattle.fields.specs.Fields.{fieldOf, fieldRefusal}
 use Rattle.fields.proofs.Fields.{field-told}
+use Rattle.expressions.specs.declared.value.Value.{Value}
 use Rattle.expressions.specs.declared.Valued.{Valued}
 use Rattle.expressions.specs.declared.Valued as Valued
-use Rattle.expressions.specs.Values.{valued}
+use Rattle.expressions.specs.Values.{valueOf, valued}
 use Rattle.expressions.proofs.Values.{value-found, value-refused}
 use Rattle.transitions.specs.declared.pair.Pair.{Pair}
 use Rattle.transitions.specs.declared.pair.Pair.the-variants.{Read, Refused}
-use Rattle.transitions.specs.Pairs.{inTurn, numbersRead, pairRead}
+use Rattle.transitions.specs.declared.values.TwoValues as TwoValues
+use Rattle.transitions.specs.declared.values.TwoValues.{TwoValues}
+use Rattle.transitions.specs.Pairs.{inTurn, numbersRead}
 use Rattle.transitions.specs.Transitions.{valuesRead}
 
--- What an answer tells: the two that were found, or the refusal.
-module _ {A B : Type 0} (f : A → ℕ) (g : B → ℕ) where
-  pub pair-found : (m : Result (Found (A × B))) {x : Pair} {v w n : ℕ} → x ≡ pairRead f g m → x ≡ Read v w n →
-      (a : A) × (b : B) × (m ≡ found (a, b) n) × (f a ≡ v) × (g b ≡ w)
-  unfolding pairRead
-  pair-found (ok r) {x} {v} {w} {n} p q =
-      let d : n ≡ r .next = cc in
-      let e : f (r .value .0) ≡ v = cc in
-      let e′ : g (r .value .1) ≡ w = cc in
-      (r .value .0, r .value .1, rw d, e, e′)
-  pair-found (refused r) p q = let z : _≡_ {A = ℕ} 0 1 = cc in absurd (omega arith)
+-- What an answer tells: the two numbers that were found, or the refusal.
+unfoldable pub resultIn : Pair → Result (Found (ℕ × ℕ))
+resultIn (Read v w n) = found (v, w) n
+resultIn (Refused r) = refused r
 
-  pub pair-refused : (m : Result (Found (A × B))) {x : Pair} {r : Refusal} → x ≡ pairRead f g m → x ≡ Refused r → m ≡ refused r
-  unfolding pairRead
-  pair-refused (ok r) p q = cc
-  pair-refused (refused r) p q = cc
+pub pair-told : (m : Result (Found (ℕ × ℕ))) {x y : Pair} → x ≡ numbersRead m → x ≡ y → m ≡ resultIn y
+unfolding numbersRead resultIn
+pair-told = told numbersRead resultIn back
+  where
+    back : (m : Result (Found (ℕ × ℕ))) → resultIn (numbersRead m) ≡ m
+    back (ok f) = refl
+    back (refused r) = refl
+
+-- The two expressions that were found, by their values, or the refusal.
+module _ (header : Header) (rank : ℕ) (registers : List ℕ) where
+  pub two-found : (m : Result (Found (Expression × Expression))) {x : TwoValues} {v w : Value} {n : ℕ} →
+      x ≡ valuesRead header rank registers m → x ≡ TwoValues.the-variants.Read v w n →
+      (e : Expression) × (e′ : Expression) × (m ≡ found (e, e′) n) × (valueOf header rank registers e ≡ v) × (valueOf header rank registers e′ ≡ w)
+  unfolding valuesRead
+  two-found (ok f) {x} {v} {w} {n} p q =
+      let d : n ≡ f .next = cc in
+      let e : valueOf header rank registers (f .value .0) ≡ v = cc in
+      let e′ : valueOf header rank registers (f .value .1) ≡ w = cc in
+      (f .value .0, f .value .1, rw d, e, e′)
+  two-found (refused r) p q = let z : _≡_ {A = ℕ} 0 1 = cc in absurd (omega arith)
+
+  pub two-refused : (m : Result (Found (Expression × Expression))) {x : TwoValues} {r : Refusal} →
+      x ≡ valuesRead header rank registers m → x ≡ TwoValues.the-variants.Refused r → m ≡ refused r
+  unfolding valuesRead
+  two-refused (ok f) p q = cc
+  two-refused (refused r) p q = cc
 
 -- A bind that is refused was refused by the first or by what follows it.
 pub bind-refused : {A B P : Type 0} (m : Result A) (rest : A → Result B) {r : Refusal} → (m >>= rest) ≡ refused r →
@@ -71,38 +89,38 @@ module _ {A B : Type 0} (first : Reader A) (second : Reader B) (bytes : List ℕ
 module _ (first second : Reader ℕ) (bytes : List ℕ) (at : ℕ) {x : Field} (p : x ≡ fieldOf (first bytes at)) where
   pub first-stops : {r s : Refusal} → x ≡ Field.the-variants.Refused r → s ≡ fieldRefusal x →
       Refused s ≡ numbersRead (inTurn first second bytes at)
-  unfolding inTurn pairRead
+  unfolding inTurn numbersRead
   first-stops q e = rw (e, field-told (first bytes at) p q, q)
 
   module _ {v n : ℕ} (q : x ≡ Field.the-variants.Read v n) {y : Field} (p₁ : y ≡ fieldOf (second bytes n)) where
     pub second-stops : {r s : Refusal} → y ≡ Field.the-variants.Refused r → s ≡ fieldRefusal y →
         Refused s ≡ numbersRead (inTurn first second bytes at)
-    unfolding inTurn pairRead
+    unfolding inTurn numbersRead
     second-stops q₁ e = rw (e, field-told (first bytes at) p q, field-told (second bytes n) p₁ q₁, q₁)
 
     pub both-read : {w k : ℕ} → y ≡ Field.the-variants.Read w k → Read v w k ≡ numbersRead (inTurn first second bytes at)
-    unfolding inTurn pairRead
+    unfolding inTurn numbersRead
     both-read q₁ = rw (field-told (first bytes at) p q, field-told (second bytes n) p₁ q₁)
 
 -- The same of the values of two expressions.
 module _ (header : Header) (rank : ℕ) (registers : List ℕ) (first second : Reader Expression) (bytes : List ℕ) (at : ℕ)
     {x : Valued} (p : x ≡ valued header rank registers (first bytes at)) where
   pub first-value-stops : {r : Refusal} → x ≡ Valued.the-variants.Refused r →
-      Refused r ≡ valuesRead header rank registers (inTurn first second bytes at)
-  unfolding inTurn pairRead
+      TwoValues.the-variants.Refused r ≡ valuesRead header rank registers (inTurn first second bytes at)
+  unfolding inTurn valuesRead
   first-value-stops q = rw (value-refused header rank registers (first bytes at) p q)
 
-  module _ {v n : ℕ} (q : x ≡ Valued.the-variants.Value v n) {y : Valued} (p₁ : y ≡ valued header rank registers (second bytes n)) where
+  module _ {v : Value} {n : ℕ} (q : x ≡ Valued.the-variants.Read v n) {y : Valued} (p₁ : y ≡ valued header rank registers (second bytes n)) where
     pub second-value-stops : {r : Refusal} → y ≡ Valued.the-variants.Refused r →
-        Refused r ≡ valuesRead header rank registers (inTurn first second bytes at)
-    unfolding inTurn pairRead
+        TwoValues.the-variants.Refused r ≡ valuesRead header rank registers (inTurn first second bytes at)
+    unfolding inTurn valuesRead
     second-value-stops q₁ =
         let (a, m, e) = value-found header rank registers (first bytes at) p q in
         rw (m, value-refused header rank registers (second bytes n) p₁ q₁)
 
-    pub both-values : {w k : ℕ} → y ≡ Valued.the-variants.Value w k →
-        Read v w k ≡ valuesRead header rank registers (inTurn first second bytes at)
-    unfolding inTurn pairRead
+    pub both-values : {w : Value} {k : ℕ} → y ≡ Valued.the-variants.Read w k →
+        TwoValues.the-variants.Read v w k ≡ valuesRead header rank registers (inTurn first second bytes at)
+    unfolding inTurn valuesRead
     both-values q₁ =
         let (a, m, e) = value-found header rank registers (first bytes at) p q in
         let (b, m′, e′) = value-found header rank registers (second bytes n) p₁ q₁ in
@@ -111,11 +129,11 @@ module _ (header : Header) (rank : ℕ) (registers : List ℕ) (first second : R
 -- What two numbers that were answered tell of their readers.
 module _ (first second : Reader ℕ) (bytes : List ℕ) (at : ℕ) {x : Pair} (p : x ≡ numbersRead (inTurn first second bytes at)) where
   pub numbers-found : {v w n : ℕ} → x ≡ Read v w n → (middle : ℕ) × (first bytes at ≡ found v middle) × (second bytes middle ≡ found w n)
-  numbers-found {n = n} q =
-      let (a, b, m, e, e′) = pair-found (λ n. n) (λ n. n) (inTurn first second bytes at) p q in
-      let (middle, h, k) = in-turn first second bytes at m in
-      (middle, h ∙ ap (λ (v : ℕ). found v middle) e, k ∙ ap (λ (w : ℕ). found w n) e′)
+  unfolding resultIn
+  numbers-found q =
+      in-turn first second bytes at (pair-told (inTurn first second bytes at) p q)
 
   pub numbers-refused : {P : Type 0} {r : Refusal} → x ≡ Refused r → (first bytes at ≡ refused r → P) →
       ((a : Found ℕ) → first bytes at ≡ ok a → second bytes (a .next) ≡ refused r → P) → P
-  numbers-refused q = not-in-turn first second bytes at (pair-refused (λ n. n) (λ n. n) (inTurn first second bytes at) p q)
+  unfolding resultIn
+  numbers-refused q = not-in-turn first second bytes at (pair-told (inTurn first second bytes at) p q)

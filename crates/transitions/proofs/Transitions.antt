@@ -33,9 +33,9 @@ use Rattle.transitions.specs.declared.transition.Form.{Form}
 use Rattle.transitions.specs.declared.transition.Transition.{Transition}
 use Rattle.transitions.specs.declared.transition.TransitionRead as TransitionRead
 use Rattle.transitions.specs.declared.transition.TransitionRead.{TransitionRead}
-use Rattle.transitions.specs.Pairs.{inTurn, numbersRead, pairRead}
+use Rattle.transitions.specs.Pairs.{inTurn, numbersRead}
 use Rattle.transitions.specs.Transitions.{Makes, RestRead, afterForm, commandOf, fieldsRead, optionMap, readForm, transitionRead, valuesOf}
-use Rattle.transitions.proofs.Pairs.{bind-refused, numbers-found, numbers-refused, pair-found, pair-refused}
+use Rattle.transitions.proofs.Pairs.{bind-refused, pair-told, resultIn, numbers-found, numbers-refused}
 
 -- The row that a map tells of.
 a-row : (row : Option Programs.CommandForm) {y : Form} {map : ℕ} → optionMap row ≡ y → y ≡ Form.the-variants.Map map →
@@ -53,17 +53,17 @@ module _ (bytes : List ℕ) (at : ℕ) {x : Field} (p : x ≡ fieldOf (byte prog
   formRead = numbersRead (readForm bytes at)
 
   pub no-map : {r s : Refusal} → x ≡ Field.the-variants.Refused r → s ≡ fieldRefusal x → Refused s ≡ formRead
-  unfolding readForm pairRead
+  unfolding readForm numbersRead
   no-map q e = rw (e, field-told (byte programLength bytes at) p q, q)
 
   module _ {map place : ℕ} (q : x ≡ Field.the-variants.Read map place) {y : Field} (p₁ : y ≡ fieldOf (byte programLength bytes place)) where
     pub no-kind : {r s : Refusal} → y ≡ Field.the-variants.Refused r → s ≡ fieldRefusal y → Refused s ≡ formRead
-    unfolding readForm pairRead
+    unfolding readForm numbersRead
     no-kind q₁ e = rw (e, field-told (byte programLength bytes at) p q, field-told (byte programLength bytes place) p₁ q₁, q₁)
 
     module _ {kind next : ℕ} (q₁ : y ≡ Field.the-variants.Read kind next) {z : Form} (p₂ : optionMap (lookup kind forms) ≡ z) where
       pub unknown-kind : z ≡ Form.the-variants.Unknown → Refused (record { number = programForm; place = place }) ≡ formRead
-      unfolding readForm pairRead
+      unfolding readForm numbersRead
       unknown-kind q₂ =
           rw (
             field-told (byte programLength bytes at) p q,
@@ -74,7 +74,7 @@ module _ (bytes : List ℕ) (at : ℕ) {x : Field} (p : x ≡ fieldOf (byte prog
 
       module _ {expected : ℕ} (q₂ : z ≡ Form.the-variants.Map expected) where
         pub other-map : ¬ (map ≡ expected) → Refused (record { number = programForm; place = at }) ≡ formRead
-        unfolding readForm pairRead
+        unfolding readForm numbersRead
         other-map h =
             let (row, known, e) = a-row (lookup kind forms) p₂ q₂ in
             rw (
@@ -86,7 +86,7 @@ module _ (bytes : List ℕ) (at : ℕ) {x : Field} (p : x ≡ fieldOf (byte prog
             )
 
         pub form-fits : map ≡ expected → Read map kind next ≡ formRead
-        unfolding readForm pairRead
+        unfolding readForm numbersRead
         form-fits h =
             let (row, known, e) = a-row (lookup kind forms) p₂ q₂ in
             rw (
@@ -198,19 +198,18 @@ module _ {header : Header} {rank : ℕ} {registers : List ℕ} {map kind : ℕ} 
 module _ (header : Header) (rank : ℕ) (registers bytes : List ℕ) (at : ℕ) {x : Pair} (p : x ≡ numbersRead (readForm bytes at)) where
   pub no-form : {r : Refusal} → x ≡ Refused r →
       TransitionRead.the-variants.Refused r ≡ transitionRead header rank registers (readTransition header bytes at)
-  unfolding readForm readTransition
+  unfolding readForm readTransition resultIn
   no-form q =
-      bind-refused (byte programLength bytes at) _ (pair-refused _ _ (readForm bytes at) p q) (λ h. rw h)
+      bind-refused (byte programLength bytes at) _ (pair-told (readForm bytes at) p q) (λ h. rw h)
       (λ m h h₁. bind-refused (byte programLength bytes (m .next)) _ h₁ (λ k. rw (h, k))
       (λ k h′ h₂. bind-refused (judgedForm at (m .value) (lookup (k .value) forms) bytes (k .next)) _ h₂ (λ j. rw (h, h′, j))
       (λ f j h₃. absurd (refused≢ok (sym h₃)))))
 
   pub form-then : {map kind a : ℕ} {y : TransitionRead} → x ≡ Read map kind a → RestRead header rank registers map kind bytes a y →
       y ≡ transitionRead header rank registers (readTransition header bytes at)
-  unfolding readTransition afterForm
+  unfolding readTransition afterForm resultIn
   form-then {map} {kind} {a} q rest =
-      let (m, k, h, e, e′) = pair-found (λ n. n) (λ n. n) (readForm bytes at) p q in
-      let f : FormFound bytes at map kind a = form-found bytes at (h ∙ rw (e, e′)) in
+      let f : FormFound bytes at map kind a = form-found bytes at (pair-told (readForm bytes at) p q) in
       rw (f .map-read, f .kind-read, f .known, f .fits) (rest .for-row (f .form) (f .known))
 
 -- What a transition's answer tells of the definition's reader: a transition that ends there, or the refusal.

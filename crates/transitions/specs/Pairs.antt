@@ -11,11 +11,7 @@ inTurn first second = do
   b ← second
   pure (a, b)
 
--- The numbers of what was found and the place after it, or the refusal.
-unfoldable pub pairRead : {A B : Type 0} → (A → ℕ) → (B → ℕ) → Result (Found (A × B)) → Pair
-pairRead f g (ok found) = Read (f (found .value .0)) (g (found .value .1)) (found .next)
-pairRead f g (refused r) = Refused r
-
--- Both are numbers.
-abbrev pub numbersRead : Result (Found (ℕ × ℕ)) → Pair
-numbersRead = pairRead (λ n. n) (λ n. n)
+-- Two numbers that were found and the place after them, or the refusal.
+unfoldable pub numbersRead : Result (Found (ℕ × ℕ)) → Pair
+numbersRead (ok found) = Read (found .value .0) (found .value .1) (found .next)
+numbersRead (refused r) = Refused r

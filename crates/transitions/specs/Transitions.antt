@@ -12,8 +12,9 @@ use Rattle.model.specs.Expressions.{Expression, constant, expression}
 use Rattle.model.specs.Programs as Programs
 use Rattle.model.specs.Programs.{load, store, assign, assume, read, write, bar, forms, judgedForm, readFields}
 use Rattle.expressions.specs.Values.{numberBelow, valueOf}
-use Rattle.transitions.specs.declared.pair.Pair.{Pair}
 use Rattle.transitions.specs.declared.values.Values.{Values}
+use Rattle.transitions.specs.declared.values.TwoValues as TwoValues
+use Rattle.transitions.specs.declared.values.TwoValues.{TwoValues}
 use Rattle.transitions.specs.declared.values.FieldsRead as FieldsRead
 use Rattle.transitions.specs.declared.values.FieldsRead.{FieldsRead}
 use Rattle.transitions.specs.declared.transition.Form as Form
@@ -23,7 +24,6 @@ use Rattle.transitions.specs.declared.transition.Command.{Command}
 use Rattle.transitions.specs.declared.transition.Command.the-variants.{Load, Store, Assign, Assume, Read, Write, Bar}
 use Rattle.transitions.specs.declared.transition.TransitionRead as TransitionRead
 use Rattle.transitions.specs.declared.transition.TransitionRead.{TransitionRead}
-use Rattle.transitions.specs.Pairs.{pairRead}
 
 -- The map in a row of the table of kinds.
 abbrev pub optionMap : Option Programs.CommandForm → Form
@@ -46,8 +46,10 @@ unfolding expression
 expressionField registers stands = optional stands (constant 0) (expression registers)
 
 module _ (header : Header) (rank : ℕ) (registers : List ℕ) where
-  abbrev pub valuesRead : Result (Found (Expression × Expression)) → Pair
-  valuesRead = pairRead (valueOf header rank registers) (valueOf header rank registers)
+  unfoldable pub valuesRead : Result (Found (Expression × Expression)) → TwoValues
+  valuesRead (ok f) =
+      TwoValues.the-variants.Read (valueOf header rank registers (f .value .0)) (valueOf header rank registers (f .value .1)) (f .next)
+  valuesRead (refused r) = TwoValues.the-variants.Refused r
 
   abbrev pub valuesOf : Programs.Fields → Values
   valuesOf f =

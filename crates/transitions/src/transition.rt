@@ -5,6 +5,7 @@ use crate::values::FieldsRead;
 use crate::values::Values;
 use crate::values::read_fields;
 use expressions::read_below;
+use expressions::value::Value;
 use fields::Field;
 use fields::read_byte;
 use model::Header;
@@ -21,18 +22,18 @@ ghost use Rattle.transitions.specs.Transitions.{optionMap, readForm, Mak
 
 // The values of e1 to e4 of a transfer: "e1 own cell, e2 remote rank, e3 remote cell, e4 queue". None is judged yet.
 pub struct Operands {
-    pub own: u16,
-    pub rank: u16,
-    pub cell: u16,
-    pub queue: u16,
+    pub own: Value,
+    pub rank: Value,
+    pub cell: Value,
+    pub queue: Value,
 }
 
 // The command column of document 01's table of kinds, with a value in the place of each expression.
 pub enum Command {
-    Load { register: u16, cell: u16 },
-    Store { cell: u16, value: u16 },
-    Assign { register: u16, value: u16 },
-    Assume { value: u16 },
+    Load { register: u16, cell: Value },
+    Store { cell: Value, value: Value },
+    Assign { register: u16, value: Value },
+    Assume { value: Value },
     Read { operands: Operands },
     Write { operands: Operands },
     Bar,
@@ -120,11 +121,15 @@ fn read_states(bytes: &[u8], at: usize, states: u16) -> Pair
 fn operands_of(values: Values) -> Operands
     ensures { λ r. ⌜ r ≡ transferOperands values ⌝ }
 {
+    let own = values.e1;
+    let rank = values.e2;
+    let cell = values.e3;
+    let queue = values.e4;
     Operands {
-        own: values.e1,
-        rank: values.e2,
-        cell: values.e3,
-        queue: values.e4,
+        own,
+        rank,
+        cell,
+        queue,
     }
 }
 
@@ -132,20 +137,23 @@ fn operands_of(values: Values) -> Operands
 fn command_of(kind: u16, values: Values) -> Command
     ensures { λ r. ⌜ Makes kind values r ⌝ }
 {
+    let register = values.register;
+    let first = values.e1;
+    let second = values.e2;
     match kind {
         1 => Command::Load {
-            register: values.register,
-            cell: values.e1,
+            register,
+            cell: first,
         },
         2 => Command::Store {
-            cell: values.e1,
-            value: values.e2,
+            cell: first,
+            value: second,
         },
         3 => Command::Assign {
-            register: values.register,
-            value: values.e1,
+            register,
+            value: first,
         },
-        4 => Command::Assume { value: values.e1 },
+        4 => Command::Assume { value: first },
         5 => Command::Read {
             operands: operands_of(values),
         },

@@ -1,9 +1,9 @@
 // The fields of a transition, with the values of its expressions in a rank: "only the fields whose map bit stands, in bit order: bit 0 a register
 // (one byte); bits 1 to 4 expressions e1 to e4".
-use crate::pair::Pair;
 use expressions::Valued;
 use expressions::evaluate;
 use expressions::read_below;
+use expressions::value::Value;
 use fields::Field;
 use fields::bit;
 use model::Header;
@@ -20,15 +20,21 @@ ghost use Rattle.transitions.specs.Transitions.{expressionField, valuesR
 // A field that the map leaves out is 0.
 pub struct Values {
     pub register: u16,
-    pub e1: u16,
-    pub e2: u16,
-    pub e3: u16,
-    pub e4: u16,
+    pub e1: Value,
+    pub e2: Value,
+    pub e3: Value,
+    pub e4: Value,
 }
 
 // The values and the place after the fields, or the refusal.
 pub enum FieldsRead {
     Read(Values, usize),
+    Refused(Refusal),
+}
+
+// The values of two expressions and the place after them, or the refusal of the first that is refused.
+enum TwoValues {
+    Read(Value, Value, usize),
     Refused(Refusal),
 }
 
@@ -57,7 +63,7 @@ fn read_value(
     if stands {
         evaluate(bytes, at, header, rank, registers)
     } else {
-        Valued::Value(0, at)
+        Valued::Read(Value::Number(0), at)
     }
 }
 
@@ -70,18 +76,18 @@ fn two_values(
     header: Header,
     rank: u16,
     registers: RankRegisters,
-) -> Pair
+) -> TwoValues
     ensures { λ r. ⌜ r ≡ valuesRead header rank registers
         (inTurn (expressionField (header .registers) first) (expressionField (header .registers) second) (now (bytes .entry)) at) ⌝ }
 {
     let one = read_value(bytes, at, first, header, rank, registers);
     match one {
-        Valued::Refused(refusal) => Pair::Refused(refusal),
-        Valued::Value(a, middle) => {
+        Valued::Refused(refusal) => TwoValues::Refused(refusal),
+        Valued::Read(a, middle) => {
             let other = read_value(bytes, middle, second, header, rank, registers);
             match other {
-                Valued::Refused(refusal) => Pair::Refused(refusal),
-                Valued::Value(b, next) => Pair::Read(a, b, next),
+                Valued::Refused(refusal) => TwoValues::Refused(refusal),
+                Valued::Read(b, next) => TwoValues::Read(a, b, next),
             }
         }
     }
@@ -104,12 +110,12 @@ pub fn read_fields(
     };
     let first = two_values(bytes, at, bit(map, 1), bit(map, 2), header, rank, registers);
     match first {
-        Pair::Refused(refusal) => FieldsRead::Refused(refusal),
-        Pair::Read(e1, e2, at) => {
+        TwoValues::Refused(refusal) => FieldsRead::Refused(refusal),
+        TwoValues::Read(e1, e2, at) => {
             let second = two_values(bytes, at, bit(map, 3), bit(map, 4), header, rank, registers);
             match second {
-                Pair::Refused(refusal) => FieldsRead::Refused(refusal),
-                Pair::Read(e3, e4, next) => FieldsRead::Read(
+                TwoValues::Refused(refusal) => FieldsRead::Refused(refusal),
+                TwoValues::Read(e3, e4, next) => FieldsRead::Read(
                     Values {
                         register,
                         e1,
