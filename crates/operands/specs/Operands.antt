@@ -5,10 +5,12 @@ use lib.Dec.{ltb}
 use Rattle.model.specs.declared.Header.{Header}
 use Rattle.model.specs.declared.Kind as Kind
 use Rattle.model.specs.declared.Kind.{Kind}
-use Rattle.model.specs.Refusals.{Result, ok, refused, require, _>>=_, operandRange, assumeFails}
+use Rattle.model.specs.Refusals.{Result, ok, refused, require, present, _>>=_, operandRange, assumeFails, noValue}
 use Rattle.model.specs.Choice.{between}
 use Rattle.model.specs.Machine as Machine
 use Rattle.model.specs.Machine.{Transfer, address, loads, stores, assigns, passes, issues, meets}
+use Rattle.expressions.specs.declared.value.Value.{Value}
+use Rattle.expressions.specs.Values.{optionIn}
 use Rattle.transitions.specs.declared.transition.Operands.{Operands}
 use Rattle.transitions.specs.declared.transition.Command.{Command}
 use Rattle.transitions.specs.declared.transition.Command.the-variants.{Load, Store, Assign, Assume, Read, Write, Bar}
@@ -50,14 +52,27 @@ transferIn (Transferred.the-variants.Refused r) = refused r
 abbrev pub ranged : {A : Type 0} → (at : ℕ) → (test : Bool) → A → Result A
 ranged at test a = require test operandRange at >>= (λ _. ok a)
 
+-- A value, or 18 at the item where there is none.
+abbrev pub given : (at : ℕ) → Value → Result ℕ
+given at v = present (optionIn v) noValue at
+
 -- "own cell, remote rank, remote cell or queue outside its range"
+unfoldable pub inRanges : Header → (rank at own remote cell queue : ℕ) → Result Transfer
+inRanges h rank at own remote cell queue = do
+  _ ← require (ltb own (h .cells)) operandRange at
+  _ ← require (between 1 (h .ranks) remote) operandRange at
+  _ ← require (ltb cell (h .cells)) operandRange at
+  _ ← require (ltb queue (h .queues)) operandRange at
+  ok (record { own = address rank own; remote = address remote cell; queue = queue })
+
 unfoldable pub transferBy : Header → (rank at : ℕ) → Operands → Result Transfer
+unfolding inRanges
 transferBy h rank at o = do
-  _ ← require (ltb (o .own) (h .cells)) operandRange at
-  _ ← require (between 1 (h .ranks) (o .rank)) operandRange at
-  _ ← require (ltb (o .cell) (h .cells)) operandRange at
-  _ ← require (ltb (o .queue) (h .queues)) operandRange at
-  ok (record { own = address rank (o .own); remote = address (o .rank) (o .cell); queue = o .queue })
+  own ← given at (o .own)
+  remote ← given at (o .rank)
+  cell ← given at (o .cell)
+  queue ← given at (o .queue)
+  inRanges h rank at own remote cell queue
 
 -- "read appends (e2, e3, own rank, e1)"; "write appends (own rank, e1, e2, e3)". Both remember e2, "for a read, the rank read from".
 abbrev pub reads : Result Transfer → Result Machine.Action
@@ -66,16 +81,35 @@ reads transfer = transfer >>= (λ t. ok (issues (t .queue) (t .remote .rank) (t 
 abbrev pub writes : Result Transfer → Result Machine.Action
 writes transfer = transfer >>= (λ t. ok (issues (t .queue) (t .remote .rank) (t .own) (t .remote)))
 
--- "passes if e1 is not 0"
-abbrev pub assumed : (at value : ℕ) → Result Machine.Action
-assumed at value = require (ltb 0 value) assumeFails at >>= (λ _. ok passes)
+-- "register takes cell e1 of its own rank", "own cell e1 takes value e2", "register takes e1", "passes if e1 is not 0"
+abbrev pub loadBy : (cells at register : ℕ) → Value → Result Machine.Action
+loadBy cells at register v = do
+  cell ← given at v
+  ranged at (ltb cell cells) (loads register cell)
+
+abbrev pub storeBy : (cells at : ℕ) → (cell value : Value) → Result Machine.Action
+storeBy cells at v w = do
+  cell ← given at v
+  value ← given at w
+  ranged at (ltb cell cells) (stores cell value)
+
+abbrev pub assignBy : (at register : ℕ) → Value → Result Machine.Action
+assignBy at register v = do
+  value ← given at v
+  ok (assigns register value)
+
+abbrev pub assumeBy : (at : ℕ) → Value → Result Machine.Action
+assumeBy at v = do
+  value ← given at v
+  _ ← require (ltb 0 value) assumeFails at
+  ok passes
 
 unfoldable pub actionBy : Header → (rank at : ℕ) → Command → Result Machine.Action
 unfolding transferBy
-actionBy h rank at (Load register cell) = ranged at (ltb cell (h .cells)) (loads register cell)
-actionBy h rank at (Store cell value) = ranged at (ltb cell (h .cells)) (stores cell value)
-actionBy h rank at (Assign register value) = ok (assigns register value)
-actionBy h rank at (Assume value) = assumed at value
+actionBy h rank at (Load register cell) = loadBy (h .cells) at register cell
+actionBy h rank at (Store cell value) = storeBy (h .cells) at cell value
+actionBy h rank at (Assign register value) = assignBy at register value
+actionBy h rank at (Assume value) = assumeBy at value
 actionBy h rank at (Read operands) = reads (transferBy h rank at operands)
 actionBy h rank at (Write operands) = writes (transferBy h rank at operands)
 actionBy h rank at Bar = ok meets

@@ -1,17 +1,20 @@
-// What a transition asks for by the values of its expressions: 8 for an operand outside its range, then 9 for an assumption that fails.
+// What a transition asks for by the values of its expressions: 18 for one that is missing, 8 for an operand outside its range, then 9 for an
+// assumption that fails.
+use expressions::value::Value;
 use model::Address;
 use model::Header;
 use model::Kind;
 use model::Refusal;
 use model::refusals::ASSUME_FAILS;
+use model::refusals::NO_VALUE;
 use model::refusals::OPERAND_RANGE;
 use transitions::transition::Command;
 use transitions::transition::Operands;
 ghost use mathlib.Core.Path.{_≡_};
 ghost use lib.Dec.{ltb};
-ghost use Rattle.operands.specs.Operands.{kindIn, actionIn, askedIn, transferIn, ranged, transferBy, reads, writes, assumed, actionBy};
+ghost use Rattle.operands.specs.Operands.{kindIn, actionIn, askedIn, transferIn, ranged, inRanges, transferBy, reads, writes, loadBy, storeBy, assignBy, assumeBy, actionBy};
 ghost use Rattle.model.specs.Choice.{between};
-ghost use Rattle.model.specs.Refusals.{ok};
+ghost use Rattle.model.specs.Refusals.{ok, refuse, noValue};
 ghost use Rattle.model.specs.Machine.{issues};
 
 // What a command does once its operands are in their ranges.
@@ -61,18 +64,22 @@ fn is_rank(rank: u16, ranks: u16) -> bool
     if rank < 1 { false } else { rank <= ranks }
 }
 
-// "e1 own cell, e2 remote rank, e3 remote cell, e4 queue"
-fn transfer(operands: Operands, header: Header, rank: u16, at: usize) -> Transferred
-    ensures { λ r. ⌜ transferIn r ≡ transferBy header rank at operands ⌝ }
+// The operands of a transfer, each in its range or the first that is not.
+fn in_ranges(
+    own: u16,
+    remote: u16,
+    cell: u16,
+    queue: u16,
+    header: Header,
+    rank: u16,
+    at: usize,
+) -> Transferred
+    ensures { λ r. ⌜ transferIn r ≡ inRanges header rank at own remote cell queue ⌝ }
 {
     let refused = Transferred::Refused(Refusal {
         number: OPERAND_RANGE,
         place: at,
     });
-    let own = operands.own;
-    let remote = operands.rank;
-    let cell = operands.cell;
-    let queue = operands.queue;
     let cells = header.cells;
     let queues = header.queues;
     if own >= cells {
@@ -96,6 +103,43 @@ fn transfer(operands: Operands, header: Header, rank: u16, at: usize) -> Transfe
     }
 }
 
+// "e1 own cell, e2 remote rank, e3 remote cell, e4 queue": one without a value is refused before any is judged by its range.
+fn transfer(operands: Operands, header: Header, rank: u16, at: usize) -> Transferred
+    ensures { λ r. ⌜ transferIn r ≡ transferBy header rank at operands ⌝ }
+{
+    let missing = Transferred::Refused(Refusal {
+        number: NO_VALUE,
+        place: at,
+    });
+    let first = operands.own;
+    let Value::Number(own) = first else {
+        return missing;
+    };
+    let second = operands.rank;
+    let Value::Number(remote) = second else {
+        return missing;
+    };
+    let third = operands.cell;
+    let Value::Number(cell) = third else {
+        return missing;
+    };
+    let fourth = operands.queue;
+    let Value::Number(queue) = fourth else {
+        return missing;
+    };
+    in_ranges(own, remote, cell, queue, header, rank, at)
+}
+
+// The refusal of an expression without a value.
+fn missing(at: usize) -> Asked
+    ensures { λ r. ⌜ askedIn r ≡ refuse noValue at ⌝ }
+{
+    Asked::Refused(Refusal {
+        number: NO_VALUE,
+        place: at,
+    })
+}
+
 // An action on an own cell.
 fn on_cell(action: Action, cell: u16, cells: u16, at: usize) -> Asked
     ensures { λ r. ⌜ askedIn r ≡ ranged at (ltb cell cells) (actionIn action) ⌝ }
@@ -110,10 +154,46 @@ fn on_cell(action: Action, cell: u16, cells: u16, at: usize) -> Asked
     }
 }
 
-// "passes if e1 is not 0"
-fn assume(value: u16, at: usize) -> Asked
-    ensures { λ r. ⌜ askedIn r ≡ assumed at value ⌝ }
+// "register takes cell e1 of its own rank"
+fn load(register: u16, cell: Value, cells: u16, at: usize) -> Asked
+    ensures { λ r. ⌜ askedIn r ≡ loadBy cells at register cell ⌝ }
 {
+    let Value::Number(cell) = cell else {
+        return missing(at);
+    };
+    on_cell(Action::Loads { register, cell }, cell, cells, at)
+}
+
+// "own cell e1 takes value e2"
+fn store(cell: Value, value: Value, cells: u16, at: usize) -> Asked
+    ensures { λ r. ⌜ askedIn r ≡ storeBy cells at cell value ⌝ }
+{
+    let Value::Number(cell) = cell else {
+        return missing(at);
+    };
+    let Value::Number(value) = value else {
+        return missing(at);
+    };
+    on_cell(Action::Stores { cell, value }, cell, cells, at)
+}
+
+// "register takes e1"
+fn assign(register: u16, value: Value, at: usize) -> Asked
+    ensures { λ r. ⌜ askedIn r ≡ assignBy at register value ⌝ }
+{
+    let Value::Number(value) = value else {
+        return missing(at);
+    };
+    Asked::Does(Action::Assigns { register, value })
+}
+
+// "passes if e1 is not 0"
+fn assume(value: Value, at: usize) -> Asked
+    ensures { λ r. ⌜ askedIn r ≡ assumeBy at value ⌝ }
+{
+    let Value::Number(value) = value else {
+        return missing(at);
+    };
     if 0 < value {
         Asked::Does(Action::Passes)
     } else {
@@ -161,13 +241,9 @@ pub fn action_of(command: Command, header: Header, rank: u16, at: usize) -> Aske
     ensures { λ r. ⌜ askedIn r ≡ actionBy header rank at command ⌝ }
 {
     match command {
-        Command::Load { register, cell } => {
-            on_cell(Action::Loads { register, cell }, cell, header.cells, at)
-        }
-        Command::Store { cell, value } => {
-            on_cell(Action::Stores { cell, value }, cell, header.cells, at)
-        }
-        Command::Assign { register, value } => Asked::Does(Action::Assigns { register, value }),
+        Command::Load { register, cell } => load(register, cell, header.cells, at),
+        Command::Store { cell, value } => store(cell, value, header.cells, at),
+        Command::Assign { register, value } => assign(register, value, at),
         Command::Assume { value } => assume(value, at),
         Command::Read { operands } => read(transfer(operands, header, rank, at)),
         Command::Write { operands } => write(transfer(operands, header, rank, at)),

@@ -7,15 +7,15 @@ use Rattle.operands.proofs.action_of.Tie as tie
 
 returns : tie.Need-returns
 unfolding actionBy
-returns c = rw (c .before .before .command .given .1) (c .on-cell .ensures)
+returns c = rw (c .before .before .command .given .1) (c .load .ensures)
 
 returns-2 : tie.Need-returns-2
 unfolding actionBy
-returns-2 c = rw (c .before .before .command2 .given .1) (c .on-cell2 .ensures)
+returns-2 c = rw (c .before .before .command2 .given .1) (c .store .ensures)
 
 returns-3 : tie.Need-returns-3
 unfolding actionBy
-returns-3 c = rw (c .before .command3 .given .1)
+returns-3 c = rw (c .before .before .command3 .given .1) (c .assign .ensures)
 
 returns-4 : tie.Need-returns-4
 unfolding actionBy
@@ -42,6 +42,7 @@ action-of-spec =
     (λ c. search needs)
     (λ c κs. search needs)
     (λ c. search needs)
+    (λ c κs. search needs)
     (λ c. search needs)
     (λ c κs. search needs)
     (λ c. search needs)

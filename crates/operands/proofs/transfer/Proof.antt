@@ -1,45 +1,54 @@
--- `transfer`: the operands are tested in the definition's order, and each that fails is the same refusal.
-use borrow.Author.Tests.{lt-ltb, le-ltb, not-true, not-false}
-use mathlib.Core.Path.{_≡_, _∙_, sym}
-use mathlib.Core.Bool.{true}
-use Rattle.model.specs.Choice.{between}
+-- `transfer`: an operand that is missing, the first of them; or their ranges.
 use Rattle.operands.specs.Operands.{transferBy}
 use borrow.Author.Needs.{needs}
 use Rattle.operands.proofs.transfer.Statement.{statement}
 use Rattle.operands.proofs.transfer.Tie as tie
 
-inRanks : (c : tie.Else2) → let a = c .before .before .before .args in between 1 (a .header .ranks) (a .operands .rank) ≡ true
-inRanks c = sym (c .before .is-rank .ensures) ∙ not-false _ (c .if2 .left)
-
 returns : tie.Need-returns
 unfolding transferBy
-returns c = rw (le-ltb _ _ (c .if1 .taken))
+returns c = rw (c .enum-told .given .1)
 
 returns-2 : tie.Need-returns-2
 unfolding transferBy
-returns-2 c = rw (lt-ltb _ _ (c .before .before .if1 .left), sym (c .before .is-rank .ensures) ∙ not-true _ (c .if2 .taken))
+returns-2 c = rw (c .before .before .before .first .given .1, c .enum-told2 .given .1)
 
 returns-3 : tie.Need-returns-3
 unfolding transferBy
 returns-3 c =
-    let atElse2 = c .before in
-    let atElse1 = atElse2 .before .before in
-    rw (lt-ltb _ _ (atElse1 .if1 .left), inRanks atElse2, le-ltb _ _ (c .if3 .taken))
+    let atSecond = c .before .before .before in
+    rw (atSecond .before .before .before .first .given .1, atSecond .second .given .1, c .enum-told3 .given .1)
 
 returns-4 : tie.Need-returns-4
 unfolding transferBy
 returns-4 c =
-    let atElse2 = c .before .before in
-    let atElse1 = atElse2 .before .before in
-    rw (lt-ltb _ _ (atElse1 .if1 .left), inRanks atElse2, lt-ltb _ _ (c .before .if3 .left), le-ltb _ _ (c .if4 .taken))
+    let atThird = c .before .before .before in
+    let atSecond = atThird .before .before .before in
+    rw (atSecond .before .before .before .first .given .1, atSecond .second .given .1, atThird .third .given .1, c .enum-told4 .given .1)
 
 returns-5 : tie.Need-returns-5
 unfolding transferBy
 returns-5 c =
-    let atElse2 = c .before .before in
-    let atElse1 = atElse2 .before .before in
-    rw (lt-ltb _ _ (atElse1 .if1 .left), inRanks atElse2, lt-ltb _ _ (c .before .if3 .left), lt-ltb _ _ (c .if4 .left))
+    let atFourth = c .before .before in
+    let atThird = atFourth .before .before .before in
+    let atSecond = atThird .before .before .before in
+    let first = atSecond .before .before .before .first .given .1 in
+    rw (first, atSecond .second .given .1, atThird .third .given .1, atFourth .fourth .given .1) (c .in-ranges .ensures)
 
 pub transfer-spec : {M : Type 1} → statement M
 transfer-spec =
-    tie.close (tie.spec returns (λ c κs. search needs) returns-2 returns-3 returns-4 returns-5)
+    tie.close
+    (tie.spec
+    (λ c. search needs)
+    (λ c. search needs)
+    returns
+    (λ c. search needs)
+    (λ c. search needs)
+    returns-2
+    (λ c. search needs)
+    (λ c. search needs)
+    returns-3
+    (λ c. search needs)
+    (λ c. search needs)
+    returns-4
+    (λ c κs. search needs)
+    returns-5)
