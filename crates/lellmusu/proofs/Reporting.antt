@@ -1,9 +1,8 @@
--- An answer is read back from its two numbers: a refusal's number is of the table, and so neither an order's nor a ring's.
+-- An answer is read back from its two numbers: a refusal's number is one of the check's, and so neither an order's nor a ring's.
 use Prim.Native.Nat.{ℕ}
 use mathlib.Core.Path.{_≡_, refl, ap, _∙_}
-use mathlib.Core.Bool.{false}
+use mathlib.Core.Bool.{false, false≢true}
 use mathlib.Core.List.{List}
-use native.Mathlib.Omega.{arith}
 use lib.Dec.{eqb}
 use borrow.Author.Tests.{ne-eqb}
 use Rattle.model.specs.declared.Answer.{Answer}
@@ -19,10 +18,10 @@ module _ {program recorded order cells order′ cells′ : List ℕ} where
   read-back (Order count) checked = refl
   read-back (Ring count) checked = refl
   read-back (Refused r) checked =
-      let tabled = checked .meets .demand1 .other-input r refl in
-      let low : eqb (r .number) 0 ≡ false = ne-eqb (r .number) 0 (λ e. omega (arith, tabled .low)) in
-      let high : eqb (r .number) 255 ≡ false = ne-eqb (r .number) 255 (λ e. omega (arith, tabled .high)) in
-      rw (low, high)
+      let tabled = checked .meets .demand1 .other-input r refl .tabled in
+      let no-order : eqb (r .number) 0 ≡ false = ne-eqb (r .number) 0 (λ e. false≢true (rw e at tabled)) in
+      let no-ring : eqb (r .number) 255 ≡ false = ne-eqb (r .number) 255 (λ e. false≢true (rw e at tabled)) in
+      rw (no-order, no-ring)
 
   pub reports : {a : Answer} {value number : ℕ} → Checked bytes program recorded order cells (answering a order′ cells′) → value ≡ valueOf a →
       number ≡ numberOf a → Reported program recorded order cells order′ cells′ value number
