@@ -5,6 +5,7 @@ pub mod value;
 
 use crate::tokens::Operand;
 use crate::tokens::Token;
+use crate::tokens::in_range;
 use crate::tokens::operated;
 use crate::tokens::token_of;
 use crate::value::Value;
@@ -146,7 +147,8 @@ fn evaluate_tokens(
             let Evaluated::Read(b, end, fewer) = second else {
                 return second;
             };
-            Evaluated::Read(operated(operator, a, b), end, fewer)
+            let number = operated(operator, a, b);
+            Evaluated::Read(in_range(number), end, fewer)
         }
         Token::Unknown => Evaluated::Refused(Refusal {
             number: PROGRAM_FORM,

@@ -51,8 +51,41 @@ pub fn token_of(byte: u16) -> Token
     }
 }
 
+// What an operator makes of two numbers, in twice their width: "A sum or product above 65,535 or a difference below 0 has no value any more", so
+// there is no value where the result is none; "13 and 14 give 1 or 0."
+fn apply(operator: Operator, a: u16, b: u16) -> u32
+    ensures { λ r. ⌜ inRange r ≡ operate (operatorOf operator) a b ⌝ }
+{
+    match operator {
+        Operator::Sum => (a as u32) + (b as u32),
+        Operator::Difference => {
+            if b <= a {
+                (a - b) as u32
+            } else {
+                VALUES
+            }
+        }
+        Operator::Product => (a as u32) * (b as u32),
+        Operator::Equal => (a == b) as u32,
+        Operator::Less => (a < b) as u32,
+    }
+}
+
+// What an operator makes of its operands' values: "and neither has an expression holding it".
+pub fn operated(operator: Operator, first: Value, second: Value) -> u32
+    ensures { λ r. ⌜ inRange r ≡ Expressions.operated (operatorOf operator) (optionIn first) (optionIn second) ⌝ }
+{
+    let Value::Number(a) = first else {
+        return VALUES;
+    };
+    let Value::Number(b) = second else {
+        return VALUES;
+    };
+    apply(operator, a, b)
+}
+
 // A number, if it is a value.
-fn in_range(number: u32) -> Value
+pub fn in_range(number: u32) -> Value
     ensures { λ r. ⌜ r ≡ valueIn (inRange number) ⌝ }
 {
     if number < VALUES {
@@ -60,36 +93,4 @@ fn in_range(number: u32) -> Value
     } else {
         Value::Missing
     }
-}
-
-// What an operator makes of two numbers: "A sum or product above 65,535 or a difference below 0 has no value any more"; "13 and 14 give 1 or 0."
-fn apply(operator: Operator, a: u16, b: u16) -> Value
-    ensures { λ r. ⌜ r ≡ valueIn (operate (operatorOf operator) a b) ⌝ }
-{
-    match operator {
-        Operator::Sum => in_range((a as u32) + (b as u32)),
-        Operator::Difference => {
-            if b <= a {
-                Value::Number(a - b)
-            } else {
-                Value::Missing
-            }
-        }
-        Operator::Product => in_range((a as u32) * (b as u32)),
-        Operator::Equal => Value::Number((a == b) as u16),
-        Operator::Less => Value::Number((a < b) as u16),
-    }
-}
-
-// What an operator makes of its operands' values: "and neither has an expression holding it".
-pub fn operated(operator: Operator, first: Value, second: Value) -> Value
-    ensures { λ r. ⌜ r ≡ valueIn (Expressions.operated (operatorOf operator) (optionIn first) (optionIn second)) ⌝ }
-{
-    let Value::Number(a) = first else {
-        return Value::Missing;
-    };
-    let Value::Number(b) = second else {
-        return Value::Missing;
-    };
-    apply(operator, a, b)
 }

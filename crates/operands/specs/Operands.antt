@@ -23,9 +23,9 @@ use Rattle.operands.specs.declared.Transferred.{Transferred}
 
 -- The kind of a transition, by its command.
 abbrev pub kindIn : Command → Kind
-kindIn (Load register cell) = Kind.the-variants.Load
+kindIn (Load cell register) = Kind.the-variants.Load
 kindIn (Store cell value) = Kind.the-variants.Store
-kindIn (Assign register value) = Kind.the-variants.Assign
+kindIn (Assign value register) = Kind.the-variants.Assign
 kindIn (Assume value) = Kind.the-variants.Assume
 kindIn (Read operands) = Kind.the-variants.Read
 kindIn (Write operands) = Kind.the-variants.Write
@@ -106,9 +106,9 @@ assumeBy at v = do
 
 unfoldable pub actionBy : Header → (rank at : ℕ) → Command → Result Machine.Action
 unfolding transferBy
-actionBy h rank at (Load register cell) = loadBy (h .cells) at register cell
+actionBy h rank at (Load cell register) = loadBy (h .cells) at register cell
 actionBy h rank at (Store cell value) = storeBy (h .cells) at cell value
-actionBy h rank at (Assign register value) = assignBy at register value
+actionBy h rank at (Assign value register) = assignBy at register value
 actionBy h rank at (Assume value) = assumeBy at value
 actionBy h rank at (Read operands) = reads (transferBy h rank at operands)
 actionBy h rank at (Write operands) = writes (transferBy h rank at operands)

@@ -241,9 +241,9 @@ pub fn action_of(command: Command, header: Header, rank: u16, at: usize) -> Aske
     ensures { λ r. ⌜ askedIn r ≡ actionBy header rank at command ⌝ }
 {
     match command {
-        Command::Load { register, cell } => load(register, cell, header.cells, at),
+        Command::Load { cell, register } => load(register, cell, header.cells, at),
         Command::Store { cell, value } => store(cell, value, header.cells, at),
-        Command::Assign { register, value } => assign(register, value, at),
+        Command::Assign { value, register } => assign(register, value, at),
         Command::Assume { value } => assume(value, at),
         Command::Read { operands } => read(transfer(operands, header, rank, at)),
         Command::Write { operands } => write(transfer(operands, header, rank, at)),
@@ -257,13 +257,13 @@ pub fn kind_of(command: Command) -> Kind
 {
     match command {
         Command::Load {
-            register: _,
             cell: _,
+            register: _,
         } => Kind::Load,
         Command::Store { cell: _, value: _ } => Kind::Store,
         Command::Assign {
-            register: _,
             value: _,
+            register: _,
         } => Kind::Assign,
         Command::Assume { value: _ } => Kind::Assume,
         Command::Read { operands: _ } => Kind::Read,

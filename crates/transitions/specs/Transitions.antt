@@ -75,9 +75,9 @@ module _ (header : Header) (rank : ℕ) (registers : List ℕ) where
       }
 
   abbrev pub commandOf : Programs.Command → Command
-  commandOf (load x e1) = Load x (valueOf header rank registers e1)
+  commandOf (load x e1) = Load (valueOf header rank registers e1) x
   commandOf (store e1 e2) = Store (valueOf header rank registers e1) (valueOf header rank registers e2)
-  commandOf (assign x e1) = Assign x (valueOf header rank registers e1)
+  commandOf (assign x e1) = Assign (valueOf header rank registers e1) x
   commandOf (assume e1) = Assume (valueOf header rank registers e1)
   commandOf (read e1 e2 e3 e4) = Read (operandsOf e1 e2 e3 e4)
   commandOf (write e1 e2 e3 e4) = Write (operandsOf e1 e2 e3 e4)

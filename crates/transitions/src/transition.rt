@@ -30,9 +30,9 @@ pub struct Operands {
 
 // The command column of document 01's table of kinds, with a value in the place of each expression.
 pub enum Command {
-    Load { register: u16, cell: Value },
+    Load { cell: Value, register: u16 },
     Store { cell: Value, value: Value },
-    Assign { register: u16, value: Value },
+    Assign { value: Value, register: u16 },
     Assume { value: Value },
     Read { operands: Operands },
     Write { operands: Operands },
@@ -142,16 +142,16 @@ fn command_of(kind: u16, values: Values) -> Command
     let second = values.e2;
     match kind {
         1 => Command::Load {
-            register,
             cell: first,
+            register,
         },
         2 => Command::Store {
             cell: first,
             value: second,
         },
         3 => Command::Assign {
-            register,
             value: first,
+            register,
         },
         4 => Command::Assume { value: first },
         5 => Command::Read {

@@ -8,6 +8,7 @@ use borrow.Fn.PlainCycle.{Measures, is, falls, and}
 use Rattle.fields.proofs.Field.refusal.Reads as refusal-reads
 use Rattle.expressions.proofs.evaluate_operand.Reads as evaluate-operand-reads
 use Rattle.expressions.proofs.read_token.Reads as read-token-reads
+use Rattle.expressions.proofs.tokens.in_range.Reads as in-range-reads
 use Rattle.expressions.proofs.tokens.operated.Reads as operated-reads
 use Rattle.expressions.proofs.tokens.token_of.Reads as token-of-reads
 use Rattle.expressions.proofs.evaluate_tokens.Reads as reads
@@ -42,6 +43,8 @@ claims t = (
   reads.Post,
   operated-reads.Asked,
   operated-reads.Learnt,
+  in-range-reads.Asked,
+  in-range-reads.Learnt,
 )
 
 module _ (t : ℕ) where
@@ -123,14 +126,15 @@ module _ (t : ℕ) where
 
   operator-value : lts.Need-returns-5 (claims t) (here t) reads.Post
   operator-value c =
-      let found = c .before .before in
+      let operated = c .before in
+      let found = operated .before .before in
       let second = found .before .before in
       let first = firstOf (second .before) in
       let token = tokenOf first in
       let read = token .before .before in
       both _ _ _ _ _ _ (read .before .before .read-token .ensures) (read .read .given .1) _ (token .token-of .ensures)
       (first .before .before .token2 .given .1) (first .evaluate-tokens .ensures) (second .before .before .first .given .1)
-      (second .evaluate-tokens2 .ensures) (found .second .given .1) (c .operated .ensures)
+      (second .evaluate-tokens2 .ensures) (found .second .given .1) (rw (← operated .operated .ensures) (c .in-range .ensures))
 
   unknown-token : lts.Need-returns-6 (claims t) (here t) reads.Post
   unknown-token c =
@@ -161,6 +165,7 @@ pub +evaluate-tokens-spec : {M : Type 1} → statement M
     (λ c. search needs)
     (λ c. search needs)
     (second-refuses t)
+    (λ c κs. search needs)
     (λ c κs. search needs)
     (λ c. search needs)
     (operand-value t)
