@@ -58,13 +58,7 @@ fn apply(operator: Operator, a: u16, b: u16) -> u32
 {
     match operator {
         Operator::Sum => (a as u32) + (b as u32),
-        Operator::Difference => {
-            if b <= a {
-                (a - b) as u32
-            } else {
-                VALUES
-            }
-        }
+        Operator::Difference => { if b <= a { (a - b) as u32 } else { VALUES } }
         Operator::Product => (a as u32) * (b as u32),
         Operator::Equal => (a == b) as u32,
         Operator::Less => (a < b) as u32,

@@ -14,7 +14,7 @@ ghost use mathlib.Core.Path.{_≡_};
 ghost use lib.Dec.{ltb};
 ghost use Rattle.operands.specs.Operands.{kindIn, actionIn, askedIn, transferIn, ranged, inRanges, transferBy, reads, writes, loadBy, storeBy, assignBy, assumeBy, actionBy};
 ghost use Rattle.model.specs.Choice.{between};
-ghost use Rattle.model.specs.Refusals.{ok, refuse, noValue};
+ghost use Rattle.model.specs.Refusals.{ok, noValue};
 ghost use Rattle.model.specs.Machine.{issues};
 
 // What a command does once its operands are in their ranges.
@@ -64,6 +64,16 @@ fn is_rank(rank: u16, ranks: u16) -> bool
     if rank < 1 { false } else { rank <= ranks }
 }
 
+// The refusal of an expression without a value.
+fn no_value(at: usize) -> Refusal
+    ensures { λ r. ⌜ r ≡ record { number = noValue; place = at } ⌝ }
+{
+    Refusal {
+        number: NO_VALUE,
+        place: at,
+    }
+}
+
 // The operands of a transfer, each in its range or the first that is not.
 fn in_ranges(
     own: u16,
@@ -107,10 +117,7 @@ fn in_ranges(
 fn transfer(operands: Operands, header: Header, rank: u16, at: usize) -> Transferred
     ensures { λ r. ⌜ transferIn r ≡ transferBy header rank at operands ⌝ }
 {
-    let missing = Transferred::Refused(Refusal {
-        number: NO_VALUE,
-        place: at,
-    });
+    let missing = Transferred::Refused(no_value(at));
     let first = operands.own;
     let Value::Number(own) = first else {
         return missing;
@@ -128,16 +135,6 @@ fn transfer(operands: Operands, header: Header, rank: u16, at: usize) -> Transfe
         return missing;
     };
     in_ranges(own, remote, cell, queue, header, rank, at)
-}
-
-// The refusal of an expression without a value.
-fn missing(at: usize) -> Asked
-    ensures { λ r. ⌜ askedIn r ≡ refuse noValue at ⌝ }
-{
-    Asked::Refused(Refusal {
-        number: NO_VALUE,
-        place: at,
-    })
 }
 
 // An action on an own cell.
@@ -159,7 +156,7 @@ fn load(register: u16, cell: Value, cells: u16, at: usize) -> Asked
     ensures { λ r. ⌜ askedIn r ≡ loadBy cells at register cell ⌝ }
 {
     let Value::Number(cell) = cell else {
-        return missing(at);
+        return Asked::Refused(no_value(at));
     };
     on_cell(Action::Loads { register, cell }, cell, cells, at)
 }
@@ -169,10 +166,10 @@ fn store(cell: Value, value: Value, cells: u16, at: usize) -> Asked
     ensures { λ r. ⌜ askedIn r ≡ storeBy cells at cell value ⌝ }
 {
     let Value::Number(cell) = cell else {
-        return missing(at);
+        return Asked::Refused(no_value(at));
     };
     let Value::Number(value) = value else {
-        return missing(at);
+        return Asked::Refused(no_value(at));
     };
     on_cell(Action::Stores { cell, value }, cell, cells, at)
 }
@@ -182,7 +179,7 @@ fn assign(register: u16, value: Value, at: usize) -> Asked
     ensures { λ r. ⌜ askedIn r ≡ assignBy at register value ⌝ }
 {
     let Value::Number(value) = value else {
-        return missing(at);
+        return Asked::Refused(no_value(at));
     };
     Asked::Does(Action::Assigns { register, value })
 }
@@ -192,7 +189,7 @@ fn assume(value: Value, at: usize) -> Asked
     ensures { λ r. ⌜ askedIn r ≡ assumeBy at value ⌝ }
 {
     let Value::Number(value) = value else {
-        return missing(at);
+        return Asked::Refused(no_value(at));
     };
     if 0 < value {
         Asked::Does(Action::Passes)

@@ -4,7 +4,7 @@ use Rattle.operands.proofs.load.Statement.{statement}
 use Rattle.operands.proofs.load.Tie as tie
 
 returns : tie.Need-returns
-returns c = rw (c .before .enum-told .given .1) (c .missing .ensures)
+returns c = rw (c .before .enum-told .given .1, c .no-value .ensures)
 
 returns-2 : tie.Need-returns-2
 returns-2 c = rw (c .before .before .cell .given .1) (c .on-cell .ensures)

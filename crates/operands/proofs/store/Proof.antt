@@ -4,12 +4,12 @@ use Rattle.operands.proofs.store.Statement.{statement}
 use Rattle.operands.proofs.store.Tie as tie
 
 returns : tie.Need-returns
-returns c = rw (c .before .enum-told .given .1) (c .missing .ensures)
+returns c = rw (c .before .enum-told .given .1, c .no-value .ensures)
 
 returns-2 : tie.Need-returns-2
 returns-2 c =
     let atValue = c .before in
-    rw (atValue .before .before .before .cell .given .1, atValue .enum-told2 .given .1) (c .missing2 .ensures)
+    rw (atValue .before .before .before .cell .given .1, atValue .enum-told2 .given .1, c .no-value2 .ensures)
 
 returns-3 : tie.Need-returns-3
 returns-3 c =
