@@ -51,8 +51,8 @@ pub fn token_of(byte: u16) -> Token
     }
 }
 
-// What an operator makes of two numbers, in twice their width: "A sum or product above 65,535 or a difference below 0 has no value any more", so
-// there is no value where the result is none; "13 and 14 give 1 or 0."
+// What an operator makes of two numbers, in twice their width, where a number above 65,535 stands for no value: "A sum or product above 65,535 or
+// a difference below 0 has no value any more"; "13 and 14 give 1 or 0."
 fn apply(operator: Operator, a: u16, b: u16) -> u32
     ensures { λ r. ⌜ inRange r ≡ operate (operatorOf operator) a b ⌝ }
 {
