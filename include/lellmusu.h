@@ -20,8 +20,8 @@
 extern "C" {
 #endif
 
-/* What the functions return: an order, a ring, or the number of a refusal in document 01's table,
- * with the table's words. Before each colon stands what *value counts. Bytes and items are counted
+/* What the functions return: an order, a ring, or the number of a refusal in document 01's table
+ * or, from 17 on, of document 02, with their words. Before each colon stands what *value counts. Bytes and items are counted
  * from 0. */
 enum {
     /* Groups: the run equals the one in the order listed. */
@@ -60,6 +60,9 @@ enum {
     LELLMUSU_MEMORY_TOO_SHORT = 15,
     /* Byte: slip not as document 01 says. Only lellmusu_read_slip returns this. */
     LELLMUSU_SLIP_FORM = 16,
+    /* Item: an expression of its transition has no value, since a sum or product passes 65,535 or a
+     * difference falls below 0. Told after 7 and before 8 and 9. */
+    LELLMUSU_NO_VALUE = 18,
     /* Groups: no run that does one transfer at a time has this run's trace. */
     LELLMUSU_RING = 255
 };
@@ -96,8 +99,8 @@ uint8_t lellmusu_check(const uint8_t *program, size_t program_length, const uint
 /*
  * Writes the slip of a run: a map of the ranks that have a command item, in two bytes for a program
  * of more than 8 ranks and in one for others, then for each of them a two-byte count of those
- * items. Program and record are refused as lellmusu_check refuses them, by 1 to 13; then a memory
- * that is too short, by 15 with the bytes needed.
+ * items. Program and record are refused as lellmusu_check refuses them, by 1 to 13 or 18; then a
+ * memory that is too short, by 15 with the bytes needed.
  *
  *   slip     gets the slip's bytes, from its first byte on
  *   value    gets the count of bytes written or, of a refusal, its place

@@ -49,7 +49,7 @@ actionOn ranks i p target a m =
       access = accessTold (accessOf (i .rank) a (cellsIn m));
     })
 
--- "A command item takes its transition from the rank's state": 7, then 8 and 9, then 11.
+-- "A command item takes its transition from the rank's state": 7, then 18, then 8 and 9, then 11.
 unfoldable pub transitionOn : Header → Item → Progress → Transition → Memory → Result Left
 unfolding actionBy actionOn
 transitionOn h i p t m = do

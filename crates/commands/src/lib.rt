@@ -74,7 +74,7 @@ fn take_action(
     }
 }
 
-// "A command item takes its transition from the rank's state": 7, then 8 and 9, then 11.
+// "A command item takes its transition from the rank's state": 7, then 18, then 8 and 9, then 11.
 fn take_transition(
     transition: Transition,
     header: Header,
