@@ -21,8 +21,8 @@ extern "C" {
 #endif
 
 /* What the functions return: an order, a ring, or the number of a refusal in document 01's table
- * or, from 17 on, of document 02, with their words. Before each colon stands what *value counts. Bytes and items are counted
- * from 0. */
+ * or, from 17 on, in document 02, with their words. Before each colon stands what *value counts.
+ * Bytes and items are counted from 0. */
 enum {
     /* Groups: the run equals the one in the order listed. */
     LELLMUSU_ORDER = 0,
