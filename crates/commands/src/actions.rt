@@ -1,5 +1,8 @@
 // What an action accesses, and what it does to the arrays.
+use entries::Pool;
+use entries::Request;
 use items::access::Accessed;
+use links::Ends;
 use memory::cell_at;
 use memory::set_cell;
 use memory::set_register;
@@ -7,9 +10,6 @@ use model::Address;
 use model::Cells;
 use model::Registers;
 use operands::Action;
-use queues::Ends;
-use queues::Pool;
-use queues::Request;
 use queues::transfers::append;
 ghost use mathlib.Core.Path.{_≡_};
 ghost use mathlib.Core.List.{List};

@@ -2,7 +2,7 @@
 use Prim.Native.Nat.{ℕ}
 use mathlib.Core.List.{List}
 use Rattle.memory.specs.Tables.{Table, cellsSize, numberAt}
-use Rattle.queues.specs.Lists.{Queues, tables}
+use Rattle.links.specs.Lists.{Queues, tables}
 
 pub record Memory : Type 0 where
   pub control : List ℕ

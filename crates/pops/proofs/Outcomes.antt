@@ -7,11 +7,11 @@ use Rattle.model.specs.Machine.{readOf, writeOf, cellAt}
 use Rattle.model.specs.ItemKinds.{delivery}
 use Rattle.model.specs.Replay.{agreesWith}
 use Rattle.memory.specs.Tables.{cellsSize, stored, Table}
-use Rattle.queues.specs.declared.Position.{Position}
-use Rattle.queues.specs.declared.Request.{Request}
-use Rattle.queues.specs.declared.Delivery.{Delivery}
+use Rattle.links.specs.declared.Position.{Position}
+use Rattle.entries.specs.declared.Request.{Request}
+use Rattle.entries.specs.declared.Delivery.{Delivery}
 use Rattle.queues.specs.Transfers.{fetched, delivered}
-use Rattle.queues.specs.Lists.{Queues}
+use Rattle.links.specs.Lists.{Queues}
 use Rattle.items.specs.declared.rows.Progress.{Progress}
 use Rattle.items.specs.Accesses.{accessTold}
 use Rattle.items.specs.Progress.{popProgress}

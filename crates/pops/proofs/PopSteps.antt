@@ -15,11 +15,11 @@ use Rattle.model.specs.Replay.{Origin, Replay, Taken, requestFor, deliveryFor, 
 use Rattle.model.specs.Replay.{agreed, afterFetch, afterDelivery, takeFetch, takeDelivery}
 use Rattle.model.proofs.Laws.{decided, and-true}
 use Rattle.memory.specs.Tables.{Rank, Place, cellsSize, stored}
-use Rattle.queues.specs.declared.Oldest.{Oldest}
-use Rattle.queues.specs.Entries.{requestAt, deliveryAt}
+use Rattle.links.specs.declared.Oldest.{Oldest}
+use Rattle.entries.specs.Entries.{requestAt, deliveryAt}
 use Rattle.queues.specs.Queued.{bareRequest, bareDelivery}
 use Rattle.queues.specs.Transfers.{fetched, delivered}
-use Rattle.queues.proofs.Searches.{positionOf, none-waits, one-waits}
+use Rattle.links.proofs.Searches.{positionOf, none-waits, one-waits}
 use Rattle.queues.proofs.Queued.{RequestTold, RequestWaits, DeliveryTold, DeliveryWaits, request-told, delivery-told, fetch-queued, deliver-queued}
 use Rattle.items.specs.declared.rows.Progress.{Progress}
 use Rattle.items.specs.Accesses.{accessNumber, accessTold}

@@ -4,14 +4,14 @@ use Rattle.model.specs.declared.Item.{Item}
 use Rattle.model.specs.Refusals.{Result, refuse, emptyQueue}
 use Rattle.model.specs.Machine.{readOf, writeOf, cellAt}
 use Rattle.memory.specs.Tables.{cellsSize, stored}
-use Rattle.queues.specs.declared.Request.{Request}
-use Rattle.queues.specs.declared.Delivery.{Delivery}
-use Rattle.queues.specs.declared.Position.{Position}
-use Rattle.queues.specs.declared.Oldest.{Oldest}
-use Rattle.queues.specs.declared.Oldest.the-variants.{Entry, Empty}
-use Rattle.queues.specs.declared.Part.the-variants.{Requests, Deliveries}
-use Rattle.queues.specs.Entries.{requestAt, deliveryAt}
-use Rattle.queues.specs.Lists.{oldestIn}
+use Rattle.entries.specs.declared.Request.{Request}
+use Rattle.entries.specs.declared.Delivery.{Delivery}
+use Rattle.links.specs.declared.Position.{Position}
+use Rattle.links.specs.declared.Oldest.{Oldest}
+use Rattle.links.specs.declared.Oldest.the-variants.{Entry, Empty}
+use Rattle.links.specs.declared.Part.the-variants.{Requests, Deliveries}
+use Rattle.entries.specs.Entries.{requestAt, deliveryAt}
+use Rattle.links.specs.Lists.{oldestIn}
 use Rattle.queues.specs.Transfers.{fetched, delivered}
 use Rattle.items.specs.declared.rows.Progress.{Progress}
 use Rattle.items.specs.Accesses.{accessTold}

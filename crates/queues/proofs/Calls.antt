@@ -3,32 +3,17 @@ use Prim.Native.Nat.{ℕ, _+_}
 use mathlib.Core.Path.{_≡_, ap, _∙_}
 use mathlib.Core.Bool.{true, _&&_}
 use lib.Dec.{ltb}
-use borrow.Author.Tests.{eq-eqb, lt-ltb, ltb-true}
+use borrow.Author.Tests.{lt-ltb, ltb-true}
 use Rattle.model.specs.Limits.{maxRanks, maxQueues, maxItems}
 use Rattle.model.proofs.Laws.{and-true}
 use Rattle.memory.specs.Tables.{Table, rowOf, stored}
 use Rattle.memory.proofs.Tables.{row-held, row-below}
-use Rattle.queues.specs.declared.Request.{Request}
-use Rattle.queues.specs.declared.Position.{Position}
-use Rattle.queues.specs.declared.Part.the-variants.{Requests, Deliveries}
-use Rattle.queues.specs.Entries.{poolSize, valueField, linkField, requestStored}
-use Rattle.queues.specs.Lists.{Queues, tables, follower, endOf, endsSize, tailEnd, listOf, withEnd, nextSet, linked, unlinked}
+use Rattle.entries.specs.declared.Request.{Request}
+use Rattle.links.specs.declared.Position.{Position}
+use Rattle.links.specs.declared.Part.the-variants.{Requests, Deliveries}
+use Rattle.entries.specs.Entries.{poolSize, valueField, requestStored}
+use Rattle.links.specs.Lists.{Queues, tables, listOf, linked, unlinked}
 use Rattle.queues.specs.Transfers.{Room, hasRoom, appended, fetched}
-
-module _ (pool ends : Table) (rank list : ℕ) where
-  pub link-made : (entry last : ℕ) (pool₁ pool₂ ends₂ ends₃ : Table) → last ≡ endOf (tables pool ends) rank (tailEnd list) →
-      pool₁ ≡ stored poolSize pool entry linkField 0 → tables pool₂ ends₂ ≡ nextSet (tables pool₁ ends) rank list last entry →
-      ends₃ ≡ stored endsSize ends₂ rank (tailEnd list) entry → tables pool₂ ends₃ ≡ linked (tables pool ends) rank list entry
-  unfolding linked
-  link-made entry last pool₁ pool₂ ends₂ ends₃ h₁ h₂ h₃ h₄ =
-      ap (tables pool₂) h₄ ∙ ap (λ t. withEnd t rank (tailEnd list) entry) (rw (h₁, h₂) at h₃)
-
-  pub unlink-made : (previous entry next : ℕ) (pool₂ ends₂ ends₃ : Table) → next ≡ follower (tables pool ends) entry →
-      tables pool₂ ends₂ ≡ nextSet (tables pool ends) rank list previous next → next ≡ 0 →
-      ends₃ ≡ stored endsSize ends₂ rank (tailEnd list) previous → tables pool₂ ends₃ ≡ unlinked (tables pool ends) rank list previous entry
-  unfolding unlinked
-  unlink-made previous entry next pool₂ ends₂ ends₃ h₁ h₂ z h₃ =
-      rw (← h₁, eq-eqb next 0 z) (ap (tables pool₂) h₃ ∙ ap (λ t. withEnd t rank (tailEnd list) previous) h₂)
 
 module _ (pool ends : Table) (rank queue : ℕ) where
   pub append-made : (at : ℕ) (request : Request) (l : ℕ) (pool₁ : Table) (t : Queues) → hasRoom rank queue at ≡ true →

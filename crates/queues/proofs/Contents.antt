@@ -13,14 +13,14 @@ use Rattle.model.specs.Replay.{isEmpty}
 use Rattle.model.proofs.Laws.{decided, put₂-same, put₂-other}
 use Rattle.memory.specs.Tables.{Table, Row, Rank, Shaped, numberAt, stored}
 use Rattle.memory.proofs.Stores.{same-place, other-place, shaped, number-same, number-other}
-use Rattle.queues.specs.declared.Request.{Request}
-use Rattle.queues.specs.declared.Part.{Part}
-use Rattle.queues.specs.declared.Part.the-variants.{Requests, Deliveries}
-use Rattle.queues.specs.Entries.{poolSize, sourceField, destinationField, valueField, groupField, remoteField}
-use Rattle.queues.specs.Entries.{linkField, addressStored, requestAt, deliveryAt, requestStored}
-use Rattle.queues.specs.Lists.{listOf}
-use Rattle.queues.specs.Chains.{first, All}
-use Rattle.queues.proofs.EntryLists.{map-same}
+use Rattle.entries.specs.declared.Request.{Request}
+use Rattle.links.specs.declared.Part.{Part}
+use Rattle.links.specs.declared.Part.the-variants.{Requests, Deliveries}
+use Rattle.entries.specs.Entries.{poolSize, sourceField, destinationField, valueField, groupField, remoteField}
+use Rattle.entries.specs.Entries.{linkField, addressStored, requestAt, deliveryAt, requestStored}
+use Rattle.links.specs.Lists.{listOf}
+use Rattle.links.specs.Chains.{first, All}
+use Rattle.links.proofs.EntryLists.{map-same}
 
 -- A request looks at neither value nor link, a delivery not at the link.
 module _ (pool pool′ : Table) (e : ℕ) where

@@ -1,10 +1,6 @@
+-- `Queued` has the laws that the proofs above cite.
 pub mod Calls
 pub mod Every
-pub mod EntryLists
-pub mod Changes
-pub mod Chains
-pub mod Chained
 pub mod Contents
-pub mod Searches
 pub mod Moves
 pub mod Queued

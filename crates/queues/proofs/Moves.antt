@@ -9,18 +9,18 @@ use Rattle.model.specs.Machine.{Request as Asked, Delivery as Sent, put, put₂
 use Rattle.model.specs.Replay.{Origin}
 use Rattle.memory.specs.Tables.{Row, Rank}
 use Rattle.memory.proofs.Stores.{shaped, number-same, number-other}
-use Rattle.queues.specs.declared.Part.{Part}
-use Rattle.queues.specs.declared.Part.the-variants.{Requests, Deliveries}
-use Rattle.queues.specs.Entries.{poolSize, valueField, linkField, requestAt, deliveryAt, requestStored}
-use Rattle.queues.specs.Lists.{Queues, tables, listsOfRank, listOf}
-use Rattle.queues.specs.Lists.{fieldOf, withField, linked, unlinked}
-use Rattle.queues.specs.Chains.{first, lastOr, All, Standing, Chained}
+use Rattle.links.specs.declared.Part.{Part}
+use Rattle.links.specs.declared.Part.the-variants.{Requests, Deliveries}
+use Rattle.entries.specs.Entries.{poolSize, valueField, linkField, requestAt, deliveryAt, requestStored}
+use Rattle.links.specs.Lists.{Queues, tables, listsOfRank, listOf}
+use Rattle.links.specs.Lists.{fieldOf, withField, linked, unlinked}
+use Rattle.links.specs.Chains.{first, lastOr, All, Standing, Chained}
 use Rattle.queues.specs.Transfers.{Room, appended, fetched, delivered}
 use Rattle.queues.specs.Queued.{bareRequest, bareDelivery, sent, Queued}
 use Rattle.queues.proofs.Calls.{there-room}
-use Rattle.queues.proofs.EntryLists.{all-append, all-but, all-middle, all-map, all-of}
-use Rattle.queues.proofs.Changes.{linked-changed, unlinked-changed}
-use Rattle.queues.proofs.Chained.{put₂-all, chained-fields, chained-linked, chained-unlinked, unlinked-free}
+use Rattle.links.proofs.EntryLists.{all-append, all-but, all-middle, all-map, all-of}
+use Rattle.links.proofs.Changes.{linked-changed, unlinked-changed}
+use Rattle.links.proofs.Chained.{put₂-all, chained-fields, chained-linked, chained-unlinked, unlinked-free}
 use Rattle.queues.proofs.Contents.{Says, says-put, says-kept, contents-same, contents-more, request-same}
 use Rattle.queues.proofs.Contents.{delivery-same, request-shape, stored-other, request-read, delivery-made, parts-apart}
 

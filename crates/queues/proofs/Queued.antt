@@ -14,21 +14,21 @@ use Rattle.model.specs.Machine.{State, Request as Asked, Delivery as Sent, put�
 use Rattle.model.specs.Replay.{Origin, isFor, requestFor, deliveryFor, every, isEmpty, quiet}
 use Rattle.memory.specs.Tables.{Row, Rank, numberAt, zeros}
 use Rattle.memory.proofs.Stores.{zeros-shape, zeros-number}
-use Rattle.queues.specs.declared.Request.{Request}
-use Rattle.queues.specs.declared.Delivery.{Delivery}
-use Rattle.queues.specs.declared.Oldest.{Oldest}
-use Rattle.queues.specs.declared.Part.{Part}
-use Rattle.queues.specs.declared.Part.the-variants.{Requests, Deliveries}
-use Rattle.queues.specs.Entries.{poolSize, remoteField, requestAt, deliveryAt}
-use Rattle.queues.specs.Lists.{Queues, tables, endsSize, listOf, headEnd, tailEnd, nextOf, oldestIn}
-use Rattle.queues.specs.Chains.{first, All, Standing}
+use Rattle.entries.specs.declared.Request.{Request}
+use Rattle.entries.specs.declared.Delivery.{Delivery}
+use Rattle.links.specs.declared.Oldest.{Oldest}
+use Rattle.links.specs.declared.Part.{Part}
+use Rattle.links.specs.declared.Part.the-variants.{Requests, Deliveries}
+use Rattle.entries.specs.Entries.{poolSize, remoteField, requestAt, deliveryAt}
+use Rattle.links.specs.Lists.{Queues, tables, endsSize, listOf, headEnd, tailEnd, nextOf, oldestIn}
+use Rattle.links.specs.Chains.{first, All, Standing}
 use Rattle.queues.specs.Transfers.{Room, appended, fetched, delivered}
 use Rattle.queues.specs.Endings.{queueEmpty, rankEmpty, allEmpty}
 use Rattle.queues.specs.Queued.{bareRequest, bareDelivery, sent, Queued}
 use Rattle.queues.proofs.Every.{every-same}
-use Rattle.queues.proofs.EntryLists.{all-map, once-few}
+use Rattle.links.proofs.EntryLists.{all-map, once-few}
 use Rattle.queues.proofs.Contents.{Says, contents-empty}
-use Rattle.queues.proofs.Searches.{Waiting, positionOf, Tells, search-tells}
+use Rattle.links.proofs.Searches.{Waiting, positionOf, Tells, search-tells}
 use Rattle.queues.proofs.Moves.{list-held, append-entry, fetch-entry, deliver-entry}
 
 -- Cleared tables hold empty queues.

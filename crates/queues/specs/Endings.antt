@@ -5,8 +5,8 @@ use lib.Dec.{eqb}
 use Rattle.model.specs.Choice.{numbersFrom}
 use Rattle.model.specs.Replay.{every}
 use Rattle.memory.specs.Tables.{Table}
-use Rattle.queues.specs.declared.Part.the-variants.{Requests, Deliveries}
-use Rattle.queues.specs.Lists.{nextOf}
+use Rattle.links.specs.declared.Part.the-variants.{Requests, Deliveries}
+use Rattle.links.specs.Lists.{nextOf}
 
 -- Neither a request nor a delivery waits.
 abbrev pub queueEmpty : (ends : Table) → (rank queue : ℕ) → Bool

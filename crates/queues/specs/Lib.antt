@@ -1,6 +1,4 @@
-pub mod Entries
-pub mod Lists
+-- The queues' operations on the tables, and how the tables stand for the model's queues.
 pub mod Transfers
 pub mod Endings
-pub mod Chains
 pub mod Queued

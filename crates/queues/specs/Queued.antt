@@ -6,12 +6,12 @@ use Rattle.model.specs.Limits.{maxQueues}
 use Rattle.model.specs.Machine.{Request as Asked, Delivery as Sent}
 use Rattle.model.specs.Replay.{Origin}
 use Rattle.memory.specs.Tables.{Rank}
-use Rattle.queues.specs.declared.Request.{Request}
-use Rattle.queues.specs.declared.Delivery.{Delivery}
-use Rattle.queues.specs.declared.Part.the-variants.{Requests, Deliveries}
-use Rattle.queues.specs.Entries.{requestAt, deliveryAt}
-use Rattle.queues.specs.Lists.{Queues, listOf}
-use Rattle.queues.specs.Chains.{All, Chained}
+use Rattle.entries.specs.declared.Request.{Request}
+use Rattle.entries.specs.declared.Delivery.{Delivery}
+use Rattle.links.specs.declared.Part.the-variants.{Requests, Deliveries}
+use Rattle.entries.specs.Entries.{requestAt, deliveryAt}
+use Rattle.links.specs.Lists.{Queues, listOf}
+use Rattle.links.specs.Chains.{All, Chained}
 
 -- The model's entries as the code has them: the group is kept of the command that asked, and not its place.
 abbrev pub bareRequest : Asked Origin → Request

@@ -5,11 +5,11 @@ use lib.Dec.{ltb}
 use Rattle.model.specs.Limits.{maxRanks, maxQueues, maxItems}
 use Rattle.model.specs.Choice.{when}
 use Rattle.memory.specs.Tables.{Rank, rowOf}
-use Rattle.queues.specs.declared.Request.{Request}
-use Rattle.queues.specs.declared.Position.{Position}
-use Rattle.queues.specs.declared.Part.the-variants.{Requests, Deliveries}
-use Rattle.queues.specs.Entries.{valueField, requestStored}
-use Rattle.queues.specs.Lists.{Queues, tables, listOf, withField, linked, unlinked}
+use Rattle.entries.specs.declared.Request.{Request}
+use Rattle.links.specs.declared.Position.{Position}
+use Rattle.links.specs.declared.Part.the-variants.{Requests, Deliveries}
+use Rattle.entries.specs.Entries.{valueField, requestStored}
+use Rattle.links.specs.Lists.{Queues, tables, listOf, withField, linked, unlinked}
 
 -- There is such a queue, and an entry for such an item.
 pub record Room (rank queue at : ℕ) : Type 0 where

@@ -1,21 +1,21 @@
 // What the steps of the replay do to the queues.
-use crate::Ends;
-use crate::Part;
-use crate::Pool;
-use crate::Position;
-use crate::Request;
-use crate::VALUE;
-use crate::entries::set_field;
-use crate::entries::set_request;
-use crate::lists::link;
-use crate::lists::list_of;
-use crate::lists::unlink;
+use entries::Pool;
+use entries::Request;
+use entries::VALUE;
+use entries::set_field;
+use entries::set_request;
+use links::Ends;
+use links::Part;
+use links::Position;
+use links::lists::link;
+use links::lists::list_of;
+use links::lists::unlink;
 use memory::row_of;
 use model::ITEMS;
 use model::QUEUES;
 use model::RANKS;
 ghost use mathlib.Core.Path.{_≡_};
-ghost use Rattle.queues.specs.Lists.{tables};
+ghost use Rattle.links.specs.Lists.{tables};
 ghost use Rattle.queues.specs.Transfers.{hasRoom, appended, fetched, delivered};
 
 // Whether there is such a queue, and an entry for such an item.

@@ -21,8 +21,8 @@ use Rattle.memory.specs.Tied.{Whole, Below}
 use Rattle.memory.specs.Copies.{startIn, copied}
 use Rattle.memory.proofs.Tied.{controls-zeros, holds-zeros}
 use Rattle.memory.proofs.Filled.{by-rank, table-is, copied-holds}
-use Rattle.queues.specs.Entries.{poolSize}
-use Rattle.queues.specs.Lists.{endsSize}
+use Rattle.entries.specs.Entries.{poolSize}
+use Rattle.links.specs.Lists.{endsSize}
 use Rattle.queues.specs.Endings.{allEmpty}
 use Rattle.queues.proofs.Queued.{cleared, quiet-told}
 use Rattle.record.specs.Places.{firstItem}

@@ -1,5 +1,7 @@
 // The replay of a record on a program: the program is read, then the record, then its items are taken in turn, and at the end no row is open and all
 // queues are empty.
+use entries::ENTRY;
+use links::ENDS;
 use memory::copies::copied_cells;
 use model::Cells;
 use model::Control;
@@ -16,8 +18,6 @@ use model::refusals::BARRIER_ROW;
 use model::refusals::QUEUES_LEFT;
 use program::reader::ReadAnswer;
 use program::reader::read_program;
-use queues::ENDS;
-use queues::ENTRY;
 use queues::ending::all_empty;
 use record::reader::RecordRead;
 use record::reader::read_record;

@@ -1,5 +1,7 @@
 // The items of a record in turn, each read at its place and taken, on the machine's arrays; and what is told of each.
+use entries::Pool;
 use items::rows::Progress;
+use links::Ends;
 use machine::Outcome;
 use model::Cells;
 use model::Control;
@@ -8,8 +10,6 @@ use model::Refusal;
 use model::Registers;
 use model::Starts;
 use model::Trail;
-use queues::Ends;
-use queues::Pool;
 use record::item::ItemRead;
 use record::item::read_item;
 use record::reader::FIRST_ITEM;

@@ -1,8 +1,10 @@
 // One item of a record, taken or refused, the replay's step on the machine's arrays: 12 first, then by its part, a command, a fetch or a delivery.
 use commands::take_command;
+use entries::Pool;
 use items::kinds::same_kind;
 use items::rows::Progress;
 use items::rows::row_allows;
+use links::Ends;
 use machine::Outcome;
 use model::Cells;
 use model::Control;
@@ -17,8 +19,6 @@ use model::refusals::BARRIER_ROW;
 use model::refusals::WRONG_TRANSITION;
 use pops::take_delivery;
 use pops::take_fetch;
-use queues::Ends;
-use queues::Pool;
 ghost use mathlib.Core.Path.{_≡_};
 ghost use Rattle.machine.specs.Arrays.{memory};
 ghost use Rattle.step.specs.Standing.{Steps};

@@ -1,0 +1,2 @@
+-- The pool, as rows of numbers.
+pub mod Entries
