@@ -35,7 +35,8 @@ pub struct Accepted {
     pub verdict: Verdict,
 }
 
-/// Reads program and record, replays from document 01's start, and decides; refuses with 1 to 13.
+/// Reads program and record, replays from document 01's start, and decides; refuses with 1 to 13
+/// or 18.
 pub fn accept(program: &[u8], record: &[u8]) -> Outcome<Accepted> {
     let program = Program::read(program)?;
     let items = read_record(record, &program)?;
@@ -43,7 +44,7 @@ pub fn accept(program: &[u8], record: &[u8]) -> Outcome<Accepted> {
     accept_items(program, items, &start)
 }
 
-/// Replays items that have been read from a start, and decides; refuses with 7 to 13.
+/// Replays items that have been read from a start, and decides; refuses with 7 to 13 or 18.
 pub fn accept_items(program: Program, items: Vec<Item>, start: &Start) -> Outcome<Accepted> {
     let run = replay(&program, start, &items)?;
     let grouping = gather(&run.steps);

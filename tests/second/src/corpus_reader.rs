@@ -1,7 +1,7 @@
 //! Reading the corpus form; every fault names its line.
 
 use crate::corpus::{Case, CheckCase, Expected, SlipCase};
-use crate::limits::Refusal;
+use crate::limits::{number::ALL, Refusal};
 use std::collections::BTreeSet;
 use std::fs;
 use std::path::{Path, PathBuf};
@@ -92,8 +92,8 @@ impl<'a> Lines<'a> {
             _ => None,
         };
         match parsed {
-            Some((number, place)) if (1..=16).contains(&number) => Ok(Refusal { number, place }),
-            _ => self.fault("a refusal has a number from 1 to 16 and a place"),
+            Some((number, place)) if ALL.contains(&number) => Ok(Refusal { number, place }),
+            _ => self.fault("a refusal has a number from 1 to 16, or 18, and a place"),
         }
     }
 }

@@ -6,11 +6,11 @@ use crate::limits::{number, refuse, Outcome, MAX_TOKENS};
 /// The tokens with two operands.
 #[derive(Debug, Clone, Copy, PartialEq, Eq)]
 pub enum Operator {
-    /// Token 10: the sum modulo 65,536.
+    /// Token 10: the sum, which has no value above 65,535.
     Sum,
-    /// Token 11: the difference modulo 65,536.
+    /// Token 11: the difference, which has no value below 0.
     Difference,
-    /// Token 12: the product modulo 65,536.
+    /// Token 12: the product, which has no value above 65,535.
     Product,
     /// Token 13: 1 if the operands are equal, else 0.
     Equal,
@@ -43,6 +43,9 @@ pub enum Expression {
     RankCount,
     /// Tokens 10 to 14 with their two operands.
     Binary(Operator, Box<Expression>, Box<Expression>),
+    /// The same as it was before #102, modulo 65,536. No expression is read so: the corpus files
+    /// from before #102 are made with it, so that their inputs stay.
+    Dated(Operator, Box<Expression>, Box<Expression>),
 }
 
 /// What an expression is evaluated in: one rank's registers before the step, its number, and N.
@@ -56,15 +59,26 @@ pub struct Environment<'a> {
 }
 
 impl Operator {
-    /// Applies the operator to its two operands.
-    pub fn apply(self, first: u16, second: u16) -> u16 {
+    /// The exact result for two operands.
+    fn exact(self, first: u16, second: u16) -> i64 {
+        let (first, second) = (i64::from(first), i64::from(second));
         match self {
-            Operator::Sum => first.wrapping_add(second),
-            Operator::Difference => first.wrapping_sub(second),
-            Operator::Product => first.wrapping_mul(second),
-            Operator::Equal => u16::from(first == second),
-            Operator::Less => u16::from(first < second),
+            Operator::Sum => first + second,
+            Operator::Difference => first - second,
+            Operator::Product => first * second,
+            Operator::Equal => i64::from(first == second),
+            Operator::Less => i64::from(first < second),
         }
+    }
+
+    /// Applies the operator to its two operands; none if the result is below 0 or above 65,535.
+    pub fn apply(self, first: u16, second: u16) -> Option<u16> {
+        u16::try_from(self.exact(first, second)).ok()
+    }
+
+    /// Applies the operator as before #102, modulo 65,536.
+    fn apply_dated(self, first: u16, second: u16) -> u16 {
+        self.exact(first, second).rem_euclid(65_536) as u16
     }
 
     /// The operator's token byte.
@@ -91,16 +105,35 @@ impl Expression {
         read_tokens(reader, registers, &mut left)
     }
 
-    /// The expression's value.
-    pub fn evaluate(&self, environment: &Environment) -> u16 {
+    /// The expression's value. It has none if a sum, difference or product in it passes the range,
+    /// whatever stands around that.
+    pub fn evaluate(&self, environment: &Environment) -> Option<u16> {
         match self {
-            Expression::Constant(value) => *value,
-            Expression::Register(register) => environment.registers[*register],
-            Expression::OwnRank => small(environment.rank),
-            Expression::RankCount => small(environment.ranks),
+            Expression::Constant(value) => Some(*value),
+            Expression::Register(register) => Some(environment.registers[*register]),
+            Expression::OwnRank => Some(small(environment.rank)),
+            Expression::RankCount => Some(small(environment.ranks)),
             Expression::Binary(operator, first, second) => {
-                operator.apply(first.evaluate(environment), second.evaluate(environment))
+                let first = first.evaluate(environment)?;
+                let second = second.evaluate(environment)?;
+                operator.apply(first, second)
             }
+            Expression::Dated(operator, first, second) => {
+                let first = first.evaluate(environment)?;
+                let second = second.evaluate(environment)?;
+                Some(operator.apply_dated(first, second))
+            }
+        }
+    }
+
+    /// The expression as it was before #102; its bytes are the same.
+    pub fn dated(self) -> Expression {
+        match self {
+            Expression::Binary(operator, first, second) => {
+                let (first, second) = (first.dated(), second.dated());
+                Expression::Dated(operator, Box::new(first), Box::new(second))
+            }
+            other => other,
         }
     }
 
@@ -114,7 +147,8 @@ impl Expression {
             Expression::Register(register) => out.extend([0x01, *register as u8]),
             Expression::OwnRank => out.push(0x02),
             Expression::RankCount => out.push(0x03),
-            Expression::Binary(operator, first, second) => {
+            Expression::Binary(operator, first, second)
+            | Expression::Dated(operator, first, second) => {
                 out.push(operator.token());
                 first.write(out);
                 second.write(out);

@@ -4,7 +4,7 @@ use crate::bytes::fill_words;
 use crate::check::{check_bytes, Answer};
 use crate::corpus::{to_hex, CheckCase, Expected};
 use crate::generator::Input;
-use crate::limits::Refusal;
+use crate::limits::{number, Refusal};
 use std::collections::BTreeMap;
 use std::fmt;
 
@@ -247,7 +247,7 @@ impl fmt::Display for Histogram {
         writeln!(out, "order of 0  {:8}", self.empty_orders)?;
         writeln!(out, "rings       {:8}", self.rings)?;
         writeln!(out, "slips read  {:8}", self.slips)?;
-        for number in 1..=16 {
+        for number in number::ALL {
             let places = self.refused.get(&number).map_or(0, BTreeMap::len);
             let times = self.refusals(number);
             writeln!(out, "refused {number:2}  {times:8}  at {places} places")?;

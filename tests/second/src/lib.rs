@@ -1,4 +1,4 @@
-//! Document 01 and document 02's #105, #107 and #108 once more, by another road: a second
+//! Document 01 and document 02's #102, #105, #107 and #108 once more, by another road: a second
 //! implementation, simple and literal, with an exhaustive judge, a generator, a corpus and a
 //! harness.
 

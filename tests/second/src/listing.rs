@@ -48,7 +48,8 @@ pub fn lines_of(accepted: &Accepted) -> String {
     text
 }
 
-/// The whole text of the listing, and what it says: an order, a ring, or a refusal with 1 to 13.
+/// The whole text of the listing, and what it says: an order, a ring, or a refusal with 1 to 13 or
+/// 18.
 pub fn listing_text(program: &[u8], record: &[u8]) -> (String, Said) {
     match accept(program, record) {
         Ok(accepted) => {

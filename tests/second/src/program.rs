@@ -173,6 +173,16 @@ impl Program {
         out
     }
 
+    /// The program as it was before #102: its sums, differences and products are modulo 65,536. Its
+    /// bytes are the same.
+    pub fn dated(mut self) -> Program {
+        for transition in &mut self.transitions {
+            let expressions = std::mem::take(&mut transition.expressions).into_iter();
+            transition.expressions = expressions.map(Expression::dated).collect();
+        }
+        self
+    }
+
     /// The program's bytes.
     pub fn to_bytes(&self) -> Vec<u8> {
         let mut out = self.header();

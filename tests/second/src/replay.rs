@@ -53,7 +53,8 @@ impl Machine {
         }
     }
 
-    /// Takes a transition that fits the rank's state and the item's kind.
+    /// Takes a transition that fits the rank's state and the item's kind. All its expressions must
+    /// have a value before any of these is looked at.
     fn command(
         &mut self,
         program: &Program,
@@ -67,7 +68,10 @@ impl Machine {
             ranks: program.ranks,
         };
         let evaluate = |expression: &Expression| expression.evaluate(&environment);
-        let values: Vec<u16> = transition.expressions.iter().map(evaluate).collect();
+        let values: Option<Vec<u16>> = transition.expressions.iter().map(evaluate).collect();
+        let Some(values) = values else {
+            return Err(number::NO_VALUE);
+        };
         let command = CommandId {
             rank,
             place: self.rank(rank).taken,

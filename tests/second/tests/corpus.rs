@@ -6,6 +6,7 @@ use second::corpus_reader::{corpus_files, parse, read_file};
 use second::extras::{compare_extras, compare_slip_reader, Extras, Tally};
 use second::families;
 use second::harness::{between_guards, compare_case};
+use second::limits::{number, Refusal};
 use std::collections::BTreeSet;
 use std::fs;
 use std::path::PathBuf;
@@ -80,7 +81,7 @@ fn the_corpus_is_small_and_its_names_differ() {
         .iter()
         .map(|file| fs::metadata(file).map_or(0, |data| data.len()))
         .sum();
-    assert!(size < 2_000_000, "{size} bytes");
+    assert!(size < 2_200_000, "{size} bytes");
     let cases = cases();
     let names: BTreeSet<&str> = cases.iter().map(Case::name).collect();
     assert_eq!(names.len(), cases.len());
@@ -102,7 +103,7 @@ fn the_corpus_has_every_number_and_both_verdicts() {
                 .is_err_and(|refusal| seen.insert(refusal.number)),
         };
     }
-    let all: BTreeSet<u8> = (0..=16).chain([100]).collect();
+    let all: BTreeSet<u8> = number::ALL.into_iter().chain([0, 100]).collect();
     assert_eq!(seen, all);
 }
 
@@ -125,6 +126,11 @@ fn extremes_have_the_answers_known_beforehand() {
     );
     assert_eq!(answer("transitions-128"), Expected::Order(numbers(128)));
     assert_eq!(answer("tokens-15"), Expected::Order(numbers(1)));
+    let no_value = Refusal {
+        number: 18,
+        place: 0,
+    };
+    assert_eq!(answer("tokens-15-right"), Expected::Refused(no_value));
     assert_eq!(answer("smallest"), Expected::Order(numbers(0)));
     assert!(matches!(answer("ring-of-8-ranks"), Expected::Ring(ring) if ring.len() == 16));
 }
@@ -140,6 +146,7 @@ fn malformed_corpus_texts_are_refused_at_their_line() {
         ("record 00", "recrod 00", "line 3"),
         ("order-entries 1", "order-entries -1", "line 4"),
         ("answer refused 1 0", "answer refused 17 0", "line 6"),
+        ("answer refused 1 0", "answer refused 19 0", "line 6"),
         ("answer refused 1 0", "answer refused 1", "line 6"),
         ("answer refused 1 0", "answer maybe", "line 6"),
         ("answer refused 1 0", "answer order 1 70000", "line 6"),

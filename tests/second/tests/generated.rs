@@ -11,7 +11,7 @@ use second::generator::slips::slip_input;
 use second::generator::widen::{widened, Run};
 use second::generator::{input, middle_run, small_run, Input};
 use second::harness::{between_guards, compare, Histogram};
-use second::limits::Refusal;
+use second::limits::{number, Refusal};
 use second::program::Program;
 use second::record::record_bytes;
 use second::slip::read_slip;
@@ -39,7 +39,7 @@ fn every_refusal_number_is_seen_at_many_places() {
         histogram.count_slip(read_slip(slip.ranks, &slip.slip, &mut counts));
     }
     println!("{histogram}");
-    for number in 1..=16 {
+    for number in number::ALL {
         let places = histogram
             .refused
             .get(&number)
@@ -61,7 +61,9 @@ fn order_and_ring_counts_stay_within_the_list() {
         let mut cells = vec![0; input.cell_bytes];
         match check_bytes(&input.program, &input.record, &mut order, &mut cells) {
             Answer::Order(count) | Answer::Ring(count) => assert!(count <= order.len() / 2),
-            Answer::Refused(refusal) => assert!((1..=15).contains(&refusal.number)),
+            Answer::Refused(Refusal { number, .. }) => {
+                assert!(number != 16 && number::ALL.contains(&number));
+            }
         }
     }
 }
@@ -80,8 +82,8 @@ fn every_number_is_told_by_slip_writer_slip_reader_and_listing() {
     }
     println!("{tally}");
     let numbers = |function| tally.told[function].keys().copied().collect::<Vec<u8>>();
-    let refused = || 1..=13;
-    let writer: Vec<u8> = [0].into_iter().chain(refused()).chain([15]).collect();
+    let refused = 1..=13;
+    let writer: Vec<u8> = [0].into_iter().chain(refused).chain([15, 18]).collect();
     let listing: Vec<u8> = writer.iter().copied().chain([255]).collect();
     assert_eq!(numbers("slip writer"), writer);
     assert_eq!(numbers("slip reader"), [0, 15, 16]);
@@ -153,7 +155,7 @@ fn seen(input: &Input, answer: Answer) -> Option<String> {
         Answer::Refused(refusal) if refusal.number <= 6 => {
             seen_of_the_item(&program, &input.record, refusal).map(Into::into)
         }
-        Answer::Refused(Refusal { number, place }) if number <= 12 => {
+        Answer::Refused(Refusal { number, place }) if number <= 12 || number == 18 => {
             let item = places.get(place).filter(|at| is_high(at));
             item.map(|_| format!("refused {number} with a high byte"))
         }
@@ -175,7 +177,7 @@ fn every_rule_of_107_is_seen() {
     println!("{times:#?}");
     let rare: Vec<_> = times.iter().filter(|(_, &times)| times < 4).collect();
     assert!(
-        times.len() == 24 && rare.is_empty(),
+        times.len() == 25 && rare.is_empty(),
         "{} seen, rare {rare:?}",
         times.len()
     );
@@ -260,8 +262,8 @@ fn every_rule_of_105_is_seen() {
     println!("{times:#?}\n{many} of 20000 with N from 9 to 16, {accepted_rows} accepted with rows");
     let rare: Vec<_> = times.iter().filter(|(_, &times)| times < 4).collect();
     assert!(rare.is_empty(), "rare {rare:?}");
-    // an order and a ring of each N from 9 on, each number from 1 to 15, and the four above
-    assert_eq!(times.len(), 8 + 8 + 15 + 4);
+    // an order and a ring of each N from 9 on, each number but 16, and the four above
+    assert_eq!(times.len(), 8 + 8 + 16 + 4);
     assert!(many >= 3_000 && accepted_rows >= 300);
 }
 

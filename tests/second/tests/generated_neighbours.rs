@@ -3,7 +3,7 @@
 
 mod common;
 
-use common::{accepted, fields, items_of};
+use common::{accepted, assert_seen, count, fields, items_of, Times};
 use second::check::{accept, check_bytes, Accepted, Answer};
 use second::generator::neighbours::loosened_run;
 use second::generator::{input, names_remote, small_input, Input};
@@ -14,10 +14,7 @@ use second::machine::{Machine, Start};
 use second::order::Verdict;
 use second::program::{Kind, Program};
 use second::record::{read_record, Act, Item, Pop};
-use std::collections::{BTreeMap, BTreeSet};
-
-/// How often each thing was seen.
-type Times = BTreeMap<String, usize>;
+use std::collections::BTreeSet;
 
 /// What a pop that is taken shows: the machine before it, the pop, and whether it is of a read.
 fn seen_of_pop(machine: &Machine, act: Act, read: bool) -> Vec<String> {
@@ -146,21 +143,6 @@ fn seen(input: &Input, answer: Answer) -> BTreeSet<String> {
         Ok(_) => None,
     };
     seen.into_iter().collect()
-}
-
-/// Counts what was seen.
-fn count(times: &mut Times, seen: BTreeSet<String>) {
-    for what in seen {
-        *times.entry(what).or_default() += 1;
-    }
-}
-
-/// Fails unless so many things were seen, none of them rarely.
-fn assert_seen(times: &Times, things: usize, least: usize) {
-    println!("{times:#?}");
-    let rare: Vec<_> = times.iter().filter(|(_, &times)| times < least).collect();
-    assert!(rare.is_empty(), "rare {rare:?}");
-    assert_eq!(times.len(), things);
 }
 
 #[test]

@@ -2,11 +2,11 @@
 
 mod common;
 
-use common::{assert_extras_caught, assert_extras_right, told};
+use common::{accept_dated, assert_extras_caught, assert_extras_right, told};
 use second::check::{accept, Accepted};
 use second::extras::{listed, slip_read, slip_written, Extras, Told, Writer, DONE, RING};
 use second::groups::Group;
-use second::limits::Refusal;
+use second::limits::{Outcome, Refusal};
 use second::listing::lines_of;
 use second::order::Verdict;
 use second::program::Kind;
@@ -24,7 +24,16 @@ fn list(
     record: &[u8],
     memory: &mut [u8],
 ) -> Told {
-    let (number, text) = match accept(program, record) {
+    list_accepted(lines_of, accept(program, record), memory)
+}
+
+/// The same for what was accepted or refused.
+fn list_accepted(
+    lines_of: &dyn Fn(&Accepted) -> String,
+    accepted: Outcome<Accepted>,
+    memory: &mut [u8],
+) -> Told {
+    let (number, text) = match accepted {
         Ok(accepted) => match accepted.verdict {
             Verdict::Order(_) => (DONE, lines_of(&accepted)),
             Verdict::Ring(_) => (RING, lines_of(&accepted)),
@@ -337,5 +346,20 @@ fn cells_of_ranks_above_8_left_out() {
             let rank = words.next().and_then(|word| word.parse().ok());
             !is_cell || rank < Some(9)
         })
+    });
+}
+
+#[test]
+fn lines_for_a_run_whose_sums_come_round() {
+    assert_listing_caught(&|program, record, memory| {
+        list_accepted(&lines_of, accept_dated(program, record), memory)
+    });
+}
+
+#[test]
+fn nothing_written_for_18() {
+    assert_listing_caught(&|program, record, memory| match accept(program, record) {
+        Err(refusal) if refusal.number == 18 => refusal.into(),
+        accepted => list_accepted(&lines_of, accepted, memory),
     });
 }

@@ -3,16 +3,14 @@
 mod common;
 
 use common::{
-    assert_caught, assert_caught_and_misjudged, fields, first_caught, first_misjudged, items_of,
-    refused,
+    assert_caught, assert_caught_and_misjudged, check_by, fields, first_caught, first_misjudged,
+    items_of, refused,
 };
-use second::check::{check_bytes, fill_bytes, Accepted, Answer};
+use second::check::{check_bytes, Answer};
 use second::generator::names_remote;
-use second::groups::{arrows, gather};
 use second::harness::Subject;
-use second::limits::{Outcome, Refusal};
-use second::machine::{Machine, Run, Start, Step};
-use second::order::decide;
+use second::limits::Refusal;
+use second::machine::{Machine, Step};
 use second::program::Program;
 use second::record::{read_record, Act, Cell, Item};
 
@@ -122,45 +120,12 @@ fn step(choice: Choice, program: &Program, machine: &mut Machine, item: &Item) -
     machine.step(program, &Item { act, ..*item })
 }
 
-/// Replays with this choice, and decides as ever.
-fn replay(choice: Choice, program: &Program, items: &[Item]) -> Outcome<Run> {
-    let mut machine = Machine::new(program, &Start::zero(program));
-    let mut steps = Vec::new();
-    for (place, item) in items.iter().enumerate() {
-        let done = step(choice, program, &mut machine, item);
-        steps.push(done.map_err(|number| Refusal { number, place })?);
-    }
-    let place = items.len();
-    match (machine.open_row, machine.queues_empty()) {
-        (Some(_), _) => Err(Refusal { number: 12, place }),
-        (None, false) => Err(Refusal { number: 13, place }),
-        (None, true) => Ok(Run {
-            steps,
-            last: machine,
-        }),
-    }
-}
-
 /// The whole check with this choice.
-fn check(choice: Choice, inputs: [&[u8]; 2], [order, cells]: [&mut [u8]; 2]) -> Answer {
-    let [program, record] = inputs;
-    let accepted = Program::read(program).and_then(|program| {
-        let items = read_record(record, &program)?;
-        let run = replay(choice, &program, &items)?;
-        let grouping = gather(&run.steps);
-        let verdict = decide(
-            grouping.groups.len(),
-            &arrows(&run.steps, &grouping.group_of),
-        );
-        Ok(Accepted {
-            program,
-            items,
-            run,
-            grouping,
-            verdict,
-        })
-    });
-    fill_bytes(accepted, order, cells)
+fn check(choice: Choice, inputs: [&[u8]; 2], lists: [&mut [u8]; 2]) -> Answer {
+    let step = |program: &Program, machine: &mut Machine, item: &Item| {
+        step(choice, program, machine, item)
+    };
+    check_by(&step, inputs, lists)
 }
 
 /// Fails unless a subject with this choice is caught, also on accepted records.

@@ -3,21 +3,21 @@
 
 mod common;
 
-use common::{assert_caught, assert_caught_and_misjudged, first_caught, first_misjudged, refused};
+use common::{
+    assert_caught, assert_caught_and_misjudged, first_caught, first_misjudged, refused, replay_by,
+    StepMistake,
+};
 use second::bytes::fill_words;
 use second::check::{last_cells, Answer};
 use second::groups::{arrows, arrows_of, conflicts, gather, program_order, Pairs};
 use second::harness::Subject;
-use second::limits::Refusal;
-use second::machine::{CommandId, Machine, Run, Start, Step};
+use second::machine::{CommandId, Machine, Step};
 use second::order::{decide, Verdict};
 use second::program::{Kind, Program};
 use second::record::{read_record, Act, Item, Pop};
 use std::cell::RefCell;
 use std::collections::BTreeMap;
 
-/// How a wrong program does one item.
-type StepMistake<'a> = &'a dyn Fn(&Program, &mut Machine, &Item) -> Result<Step, u8>;
 /// How a wrong program draws its arrows.
 type ArrowMistake<'a> = &'a dyn Fn(&[Step], &[usize]) -> Pairs;
 
@@ -53,27 +53,6 @@ fn variant(
     match verdict {
         Verdict::Order(_) => Answer::Order(groups.len()),
         Verdict::Ring(_) => Answer::Ring(groups.len()),
-    }
-}
-
-/// A replay whose items are done in another way.
-fn replay_by(step: StepMistake, program: &Program, items: &[Item]) -> Result<Run, Refusal> {
-    let mut machine = Machine::new(program, &Start::zero(program));
-    let mut steps = Vec::new();
-    for (place, item) in items.iter().enumerate() {
-        match step(program, &mut machine, item) {
-            Ok(step) => steps.push(step),
-            Err(number) => return Err(Refusal { number, place }),
-        }
-    }
-    let place = items.len();
-    match (machine.open_row, machine.queues_empty()) {
-        (Some(_), _) => Err(Refusal { number: 12, place }),
-        (None, false) => Err(Refusal { number: 13, place }),
-        (None, true) => Ok(Run {
-            steps,
-            last: machine,
-        }),
     }
 }
 

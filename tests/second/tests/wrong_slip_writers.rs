@@ -2,9 +2,10 @@
 
 mod common;
 
-use common::{assert_extras_caught, assert_extras_right, told};
+use common::{accept_dated, assert_extras_caught, assert_extras_right, told};
 use second::check::{accept, Accepted};
 use second::extras::{listed, slip_read, slip_written, Extras, Told, Writer, DONE};
+use second::limits::{Outcome, Refusal};
 use second::program::Kind;
 use second::slip::{map_bytes, slip_of};
 
@@ -21,7 +22,16 @@ fn write(
     record: &[u8],
     memory: &mut [u8],
 ) -> Told {
-    let slip = match accept(program, record) {
+    write_accepted(slip_of, accept(program, record), memory)
+}
+
+/// The same for what was accepted or refused.
+fn write_accepted(
+    slip_of: &dyn Fn(&Accepted) -> Vec<u8>,
+    accepted: Outcome<Accepted>,
+    memory: &mut [u8],
+) -> Told {
+    let slip = match accepted {
         Ok(accepted) => slip_of(&accepted),
         Err(refusal) => return refusal.into(),
     };
@@ -323,4 +333,27 @@ fn the_low_byte_of_a_map_first() {
 #[test]
 fn a_map_cut_to_8_bits() {
     assert_maps_caught(|ranks, map| map_bytes(ranks, map % 256));
+}
+
+#[test]
+fn a_slip_for_a_run_whose_sums_come_round() {
+    assert_slip_writer_caught(&|program, record, memory| {
+        write_accepted(&slip_of, accept_dated(program, record), memory)
+    });
+}
+
+#[test]
+fn number_8_or_9_for_18() {
+    for other in [8, 9] {
+        assert_slip_writer_caught(&|program, record, memory| {
+            let accepted = accept(program, record).map_err(|refusal| match refusal {
+                Refusal { number: 18, place } => Refusal {
+                    number: other,
+                    place,
+                },
+                refusal => refusal,
+            });
+            write_accepted(&slip_of, accepted, memory)
+        });
+    }
 }

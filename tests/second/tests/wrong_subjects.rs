@@ -77,7 +77,7 @@ fn a_refuser_of_all() {
 
 #[test]
 fn a_number_that_is_no_answer() {
-    for number in [16, 200, 254] {
+    for number in [16, 17, 19, 200, 254] {
         assert_caught_and_misjudged(&|program, record, order, cells| match check_bytes(
             program, record, order, cells,
         ) {

@@ -1,16 +1,16 @@
 //! Cases chosen from the generator: small judged runs, and refusals at many places.
 
 use super::Named;
-use crate::check::{accept, Accepted, Answer};
+use crate::check::{accept, accept_items, fill_bytes, Accepted, Answer};
 use crate::corpus::{Case, CheckCase, Expected};
 use crate::generator::rng::Rng;
-use crate::generator::{input_of_document_01, small_run, Maker};
+use crate::generator::{dated_small_run, input, input_of_document_01, small_run, Input, Maker};
 use crate::judge::judge;
-use crate::limits::{Refusal, MAX_RANKS, MAX_SHORT_MAP_RANKS};
+use crate::limits::{number, Refusal, MAX_RANKS, MAX_SHORT_MAP_RANKS};
 use crate::machine::Start;
 use crate::order::Verdict;
-use crate::program::Kind;
-use crate::record::record_bytes;
+use crate::program::{Kind, Program};
+use crate::record::{read_record, record_bytes};
 use std::collections::{BTreeMap, BTreeSet};
 
 /// How many cases each class of `judged.txt` has for each kind that its groups may have.
@@ -50,13 +50,14 @@ fn kinds(accepted: &Accepted) -> BTreeSet<Kind> {
 
 /// The file of judged runs.
 pub fn judged_file(seed: u64) -> Result<Named, String> {
-    let cases = judged_cases(&Source {
+    let dated = Source {
         family: "judged",
-        maker: small_run,
+        maker: dated_small_run,
         seed,
         per_kind: PER_KIND,
-    })?;
-    let head = "# Small accepted runs; each order or ring confirmed by the exhaustive judge.\n";
+    };
+    let cases = renewed_cases(&dated, "judged-later", small_run)?;
+    let head = "# Small runs; each order or ring confirmed by the exhaustive judge.\n";
     Ok(Named::new("judged.txt", head, &cases))
 }
 
@@ -72,25 +73,81 @@ pub struct Source {
     pub per_kind: usize,
 }
 
-/// Judged runs: for each class and each kind of group some runs that list such a group.
-pub fn judged_cases(source: &Source) -> Result<Vec<Case>, String> {
-    let seed = source.seed;
-    let mut wanted: BTreeMap<(Class, Kind), usize> = BTreeMap::new();
-    for class in [Class::Ring, Class::Own, Class::Other] {
-        for kind in crate::program::KINDS {
-            if !kind.is_pop() {
-                wanted.insert((class, kind), source.per_kind);
+/// How many runs are still wanted of each class that list a group of each kind.
+struct Wanted(BTreeMap<(Class, Kind), usize>);
+
+impl Wanted {
+    /// So many of each.
+    fn of_each(per_kind: usize) -> Wanted {
+        let mut wanted = BTreeMap::new();
+        for class in [Class::Ring, Class::Own, Class::Other] {
+            for kind in crate::program::KINDS {
+                if !kind.is_pop() {
+                    wanted.insert((class, kind), per_kind);
+                }
+            }
+        }
+        Wanted(wanted)
+    }
+
+    /// Whether a run is wanted.
+    fn has(&self, accepted: &Accepted) -> bool {
+        let class = class(accepted);
+        let wanted = |&kind: &Kind| self.0.get(&(class, kind)).is_some_and(|&left| left > 0);
+        kinds(accepted).iter().any(wanted)
+    }
+
+    /// Counts a run that was chosen.
+    fn count(&mut self, accepted: &Accepted) {
+        let class = class(accepted);
+        for kind in kinds(accepted) {
+            if let Some(left) = self.0.get_mut(&(class, kind)) {
+                *left = left.saturating_sub(1);
             }
         }
     }
+}
+
+/// Judged runs: for each class and each kind of group some runs that list such a group.
+pub fn judged_cases(source: &Source) -> Result<Vec<Case>, String> {
+    chosen_cases(source, Wanted::of_each(source.per_kind))
+}
+
+/// The judged runs of a source from before #102, refused now or not, and after them runs of today
+/// in place of those that are refused.
+pub fn renewed_cases(
+    dated: &Source,
+    family: &'static str,
+    maker: Maker,
+) -> Result<Vec<Case>, String> {
+    let mut cases = judged_cases(dated)?;
+    let mut wanted = Wanted::of_each(dated.per_kind);
+    for case in &cases {
+        let Case::Check(case) = case else { continue };
+        if let Ok(accepted) = accept(&case.program, &case.record) {
+            wanted.count(&accepted);
+        }
+    }
+    let today = Source {
+        family,
+        maker,
+        ..*dated
+    };
+    cases.extend(chosen_cases(&today, wanted)?);
+    Ok(cases)
+}
+
+/// Runs of the source until none is wanted.
+fn chosen_cases(source: &Source, mut wanted: Wanted) -> Result<Vec<Case>, String> {
+    let seed = source.seed;
     let mut cases = Vec::new();
     for index in 0..PATIENCE {
-        if wanted.values().all(|&left| left == 0) {
+        if wanted.0.values().all(|&left| left == 0) {
             break;
         }
         cases.extend(judged_case(source, index, &mut wanted)?.map(Case::Check));
     }
-    if let Some((kind, left)) = wanted.iter().find(|(_, &left)| left > 0) {
+    if let Some((kind, left)) = wanted.0.iter().find(|(_, &left)| left > 0) {
         return Err(format!(
             "{left} judged runs of {kind:?} were not found under seed {seed}"
         ));
@@ -98,31 +155,26 @@ pub fn judged_cases(source: &Source) -> Result<Vec<Case>, String> {
     Ok(cases)
 }
 
-/// The small run of this number as a case, if it has a kind of group still wanted in its class.
+/// The small run of this number as a case, if it has a kind of group still wanted in its class. A
+/// dated run is chosen by what it was before #102, and judged only if it is accepted still.
 fn judged_case(
     source: &Source,
     index: u64,
-    wanted: &mut BTreeMap<(Class, Kind), usize>,
+    wanted: &mut Wanted,
 ) -> Result<Option<CheckCase>, String> {
     let seed = source.seed;
     let (program, items) = (source.maker)(&mut Rng::new(seed, index));
-    let (program, record) = (program.to_bytes(), record_bytes(&items));
-    let accepted = accept(&program, &record)
+    let (bytes, record) = (program.to_bytes(), record_bytes(&items));
+    let start = Start::zero(&program);
+    let accepted = accept_items(program, items, &start)
         .map_err(|refusal| format!("seed {seed}, index {index}: refused, {refusal:?}"))?;
-    let (class, kinds) = (class(&accepted), kinds(&accepted));
-    let is_wanted = kinds
-        .iter()
-        .any(|&kind| wanted.get(&(class, kind)).is_some_and(|&n| n > 0));
-    if !is_wanted || accepted.grouping.groups.len() < 2 {
+    if !wanted.has(&accepted) || accepted.grouping.groups.len() < 2 {
         return Ok(None);
     }
-    judge(&accepted, &Start::zero(&accepted.program))
-        .map_err(|fault| format!("seed {seed}, index {index}: {fault}"))?;
-    for kind in kinds {
-        if let Some(left) = wanted.get_mut(&(class, kind)) {
-            *left = left.saturating_sub(1);
-        }
+    if let Ok(accepted) = accept(&bytes, &record) {
+        judge(&accepted, &start).map_err(|fault| format!("seed {seed}, index {index}: {fault}"))?;
     }
+    wanted.count(&accepted);
     let name = format!("{}-{index}", source.family);
     let (groups, cells) = (
         accepted.grouping.groups.len(),
@@ -130,7 +182,7 @@ fn judged_case(
     );
     let entries = (groups, cells * accepted.program.cells);
     Ok(Some(CheckCase::answered(
-        name, program, record, entries.0, entries.1,
+        name, bytes, record, entries.0, entries.1,
     )))
 }
 
@@ -154,52 +206,112 @@ fn dated(program: &[u8]) -> Vec<u8> {
     dated
 }
 
-/// The case with the number of its refusal in its name; none if it is accepted.
-fn numbered(index: u64, case: CheckCase) -> Option<CheckCase> {
-    let Expected::Refused(Refusal { number, .. }) = case.answer else {
+/// The answer to an input by document 01 alone, without #102, #105 and #107.
+fn dated_answer(input: &Input) -> Answer {
+    let accepted = Program::read(&dated(&input.program)).and_then(|program| {
+        let items = read_record(&input.record, &program)?;
+        let start = Start::zero(&program);
+        accept_items(program.dated(), items, &start)
+    });
+    let (mut order, mut cells) = (vec![0; input.order_bytes], vec![0; input.cell_bytes]);
+    fill_bytes(accepted, &mut order, &mut cells)
+}
+
+/// The case of an input, if it is refused: with its number and place, and the number in its name.
+fn refused(family: &str, index: u64, input: Input) -> Option<(CheckCase, Refusal)> {
+    let entries = (input.order_bytes / 2, input.cell_bytes / 2);
+    let (program, record) = (input.program, input.record);
+    let case = CheckCase::answered(String::new(), program, record, entries.0, entries.1);
+    let Expected::Refused(refusal) = case.answer else {
         return None;
     };
-    let name = format!("refused-{number}-{index}");
-    Some(CheckCase { name, ..case })
+    let name = format!("{family}-{}-{index}", refusal.number);
+    Some((CheckCase { name, ..case }, refusal))
+}
+
+/// Whether an input is short enough for a case.
+fn is_short(input: &Input) -> bool {
+    input.program.len() <= LARGEST && input.record.len() <= LARGEST
 }
 
 /// Refusals: for each number 1 to 15 some generated inputs at places as different as can be. They
 /// are made, and chosen by their answers, by document 01 alone, so that they are the same inputs
-/// still, and refused still.
+/// still, and refused still. After them come inputs of today, for what a later request took away.
 pub fn refused_file(seed: u64) -> Result<Named, String> {
-    let mut found: BTreeMap<u8, BTreeMap<usize, CheckCase>> = BTreeMap::new();
+    let mut cases = dated_refusals(seed)?;
+    cases.extend(later_refusals(&cases, seed)?);
+    let cases: Vec<Case> = cases
+        .into_iter()
+        .map(|(case, _)| Case::Check(case))
+        .collect();
+    let head = "# Generated inputs that are refused, each number at different places.\n";
+    Ok(Named::new("refused.txt", head, &cases))
+}
+
+/// The refusals by document 01 alone, by the numbers and places that it alone gives them.
+fn dated_refusals(seed: u64) -> Result<Vec<(CheckCase, Refusal)>, String> {
+    let mut found: BTreeMap<u8, BTreeMap<usize, (CheckCase, Refusal)>> = BTreeMap::new();
     for index in 0..PATIENCE {
         if found.len() == 15 && found.values().all(|places| places.len() >= PER_NUMBER) {
             break;
         }
         let input = input_of_document_01(seed, index);
-        if input.program.len() > LARGEST || input.record.len() > LARGEST {
+        if !is_short(&input) {
             continue;
         }
-        let entries = (input.order_bytes / 2, input.cell_bytes / 2);
-        let program = dated(&input.program);
-        let filled = crate::check::answer(&program, &input.record, entries.0, entries.1);
-        let Answer::Refused(Refusal { number, place }) = filled.answer else {
+        let Answer::Refused(Refusal { number, place }) = dated_answer(&input) else {
             continue;
         };
         let places = found.entry(number).or_default();
         if places.len() < PER_NUMBER && !places.contains_key(&place) {
-            let (program, record) = (input.program, input.record);
-            let case = CheckCase::answered(String::new(), program, record, entries.0, entries.1);
-            places.extend(numbered(index, case).map(|case| (place, case)));
+            places.extend(refused("refused", index, input).map(|case| (place, case)));
         }
     }
-    let cases = found
+    let cases: Vec<_> = found
         .into_values()
         .flat_map(BTreeMap::into_values)
-        .map(Case::Check);
-    let cases: Vec<Case> = cases.collect();
+        .collect();
     if cases.len() < 15 * PER_NUMBER {
+        let found = cases.len();
         return Err(format!(
-            "only {} refusals were found under seed {seed}",
-            cases.len()
+            "only {found} refusals were found under seed {seed}"
         ));
     }
-    let head = "# Generated inputs that are refused, each number at different places.\n";
-    Ok(Named::new("refused.txt", head, &cases))
+    Ok(cases)
+}
+
+/// Inputs of today that bring each number of the check to so many places again.
+fn later_refusals(
+    dated: &[(CheckCase, Refusal)],
+    seed: u64,
+) -> Result<Vec<(CheckCase, Refusal)>, String> {
+    let of_the_check = number::ALL
+        .into_iter()
+        .filter(|&number| number != number::SLIP);
+    let mut found: BTreeMap<u8, BTreeSet<usize>> = of_the_check
+        .map(|number| (number, BTreeSet::new()))
+        .collect();
+    for (_, Refusal { number, place }) in dated {
+        found.entry(*number).or_default().insert(*place);
+    }
+    let mut cases = Vec::new();
+    for index in 0..PATIENCE {
+        if found.values().all(|places| places.len() >= PER_NUMBER) {
+            return Ok(cases);
+        }
+        let input = input(seed, index);
+        if !is_short(&input) {
+            continue;
+        }
+        let Some((case, refusal)) = refused("refused-later", index, input) else {
+            continue;
+        };
+        let places = found.entry(refusal.number).or_default();
+        if places.len() < PER_NUMBER && places.insert(refusal.place) {
+            cases.push((case, refusal));
+        }
+    }
+    Err(format!(
+        "not all refusals were found again under seed {seed}"
+    ))
 }

@@ -1,4 +1,4 @@
-//! The table's rows of the replay, 7 to 13, worked out by hand on the base program.
+//! The table's rows of the replay, 7 to 13 and #102's 18, worked out by hand on the base program.
 
 use super::base::{one, program_with, record_with, several, BASE_PROGRAM, BASE_RECORD};
 use super::row::Row;
@@ -71,9 +71,11 @@ fn transitions() -> Vec<Row> {
 
 /// Row 8: own cell, remote rank, remote cell, queue.
 fn evaluated() -> Vec<Row> {
-    let with = |what, changes: &[(usize, u8)], place| {
-        row(what, program_with(changes), BASE_RECORD.to_vec(), 8, place)
+    let numbered = |number, what, changes: &[(usize, u8)], place| {
+        let program = program_with(changes);
+        row(what, program, BASE_RECORD.to_vec(), number, place)
     };
+    let with = |what, changes: &[(usize, u8)], place| numbered(8, what, changes, place);
     let load_of_2 = program_with(&[(22, 2)]);
     vec![
         with("store-cell", &[(12, 2)], 0),
@@ -83,7 +85,8 @@ fn evaluated() -> Vec<Row> {
         with("write-own-cell", &[(48, 2)], 1),
         with("write-rank-0", &[(52, 1)], 1),
         with("write-rank-3", &[(52, 4)], 1),
-        with("write-rank-wrapped", &[(52, 0)], 1),
+        // with #102 the remote rank, 0 − 1, has no value
+        numbered(18, "write-rank-wrapped", &[(52, 0)], 1),
         with("write-remote-cell", &[(56, 2)], 1),
         with("read-own-cell", &[(65, 2)], 2),
         with("read-remote-cell", &[(68, 1)], 2),

@@ -36,6 +36,15 @@ pub fn own_order(groups: usize) -> Expected {
     Expected::Order((0..groups as u16).collect())
 }
 
+/// The cell list of a program: these cells, by rank and number, have these values, all others 0.
+pub fn cells_with(program: &Program, values: &[((usize, usize), u16)]) -> Vec<u16> {
+    let mut cells = vec![0; program.ranks * program.cells];
+    for &((rank, cell), value) in values {
+        cells[program.cells * (rank - 1) + cell] = value;
+    }
+    cells
+}
+
 impl Row {
     /// A row of a family with a refusal and long enough lists.
     pub fn refused(

@@ -3,7 +3,9 @@
 pub mod aimed;
 pub mod aimed_neighbours;
 pub mod aimed_ranks;
+pub mod aimed_sums;
 pub mod damage;
+pub mod edges;
 pub mod executions;
 pub mod expressions;
 pub mod loosen;
@@ -48,16 +50,29 @@ struct Profile {
     groups: usize,
 }
 
-/// A random small run, for the exhaustive judge: at most 16 items in at most 7 groups.
+impl Profile {
+    /// The same profile for programs as they were before #102.
+    fn dated(self) -> Profile {
+        let size = self.size.dated();
+        Profile { size, ..self }
+    }
+}
+
+/// Small runs, for the exhaustive judge: at most 16 items in at most 7 groups.
+const SMALL_PROFILE: Profile = Profile {
+    size: SMALL,
+    items: 16,
+    groups: 7,
+};
+
+/// A random small run, for the exhaustive judge.
 pub fn small_run(rng: &mut Rng) -> Run {
-    run(
-        rng,
-        Profile {
-            size: SMALL,
-            items: 16,
-            groups: 7,
-        },
-    )
+    run(rng, SMALL_PROFILE)
+}
+
+/// A random small run as before #102.
+pub fn dated_small_run(rng: &mut Rng) -> Run {
+    run(rng, SMALL_PROFILE.dated())
 }
 
 /// A random program and an execution of it from document 01's start.
@@ -119,11 +134,7 @@ pub fn middle_run(rng: &mut Rng) -> Run {
 /// A random profile: mostly small runs, now and then up to all limits.
 fn profile(rng: &mut Rng) -> Profile {
     match rng.below(100) {
-        0..=59 => Profile {
-            size: SMALL,
-            items: 16,
-            groups: 7,
-        },
+        0..=59 => SMALL_PROFILE,
         60..=69 => Profile {
             size: MIDDLE,
             items: 40,
@@ -163,21 +174,33 @@ pub fn group_count(program: &Program, items: &[Item]) -> usize {
     commands - bars + bars / program.ranks
 }
 
+/// An extreme, if one is drawn and its program and record can be read.
+fn drawn_extreme(rng: &mut Rng) -> Option<Run> {
+    if !rng.chance(1, 150) {
+        return None;
+    }
+    let extremes = extremes();
+    let extreme = rng.pick(&extremes);
+    let program = Program::read(&extreme.program).ok()?;
+    let items = read_record(&extreme.record, &program).ok()?;
+    Some((program, items))
+}
+
 /// A run for an input: mostly a random one, now and then an extreme.
 fn any_run(rng: &mut Rng) -> Run {
-    if rng.chance(1, 150) {
-        let extremes = extremes();
-        let extreme = rng.pick(&extremes);
-        let program = Program::read(&extreme.program);
-        let read = program.and_then(|program| {
-            let items = read_record(&extreme.record, &program)?;
-            Ok((program, items))
-        });
-        if let Ok(read) = read {
-            return read;
-        }
+    if let Some(extreme) = drawn_extreme(rng) {
+        return extreme;
     }
     let profile = profile(rng);
+    run(rng, profile)
+}
+
+/// The same as before #102.
+fn dated_any_run(rng: &mut Rng) -> Run {
+    if let Some((program, items)) = drawn_extreme(rng) {
+        return (program.dated(), items);
+    }
+    let profile = profile(rng).dated();
     run(rng, profile)
 }
 
@@ -201,11 +224,12 @@ pub fn small_input(seed: u64, index: u64) -> Input {
 /// What inputs are made of.
 #[derive(Debug, Clone, Copy, PartialEq, Eq)]
 enum Edition {
-    /// Document 01 alone, as the older corpus files were made. Nothing is drawn for #105, #107 and
-    /// #108, so that they come out the same.
+    /// Document 01 alone, as the older corpus files were made. Nothing is drawn for #102, #105,
+    /// #107 and #108, so that they come out the same.
     Document01,
-    /// #105, #107 and #108 too: programs of more than 8 ranks and of more than 128 transitions,
-    /// transfers that overtake each other, and damage aimed at all of these.
+    /// #102, #105, #107 and #108 too: sums at the edges of the range, programs of more than 8
+    /// ranks and of more than 128 transitions, transfers that overtake each other, and damage aimed
+    /// at all of these.
     Later,
 }
 
@@ -271,11 +295,14 @@ pub fn input_of_document_01(seed: u64, index: u64) -> Input {
 /// The input of this number under this seed.
 fn made(seed: u64, index: u64, edition: Edition) -> Input {
     let mut rng = Rng::new(seed, index);
-    let (program, mut items) = match edition {
-        Edition::Document01 => any_run(&mut rng),
+    let (mut program, mut items) = match edition {
+        Edition::Document01 => dated_any_run(&mut rng),
         Edition::Later => later_run(&mut rng, ANY_RUNS),
     };
     let mut input = roomy(&mut rng, &program, &items);
+    if edition == Edition::Later && rng.chance(1, 8) {
+        aimed_sums::damage(&mut rng, &mut program, &mut items, &mut input);
+    }
     if rng.chance(1, 2) {
         let times = *rng.pick(&[1, 1, 1, 2]);
         for _ in 0..times {

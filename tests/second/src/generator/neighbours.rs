@@ -24,6 +24,11 @@ pub fn small_run(rng: &mut Rng) -> Run {
     run(rng, SHORT)
 }
 
+/// A random small run as before #102.
+pub fn dated_small_run(rng: &mut Rng) -> Run {
+    run(rng, SHORT.dated())
+}
+
 /// A random run: mostly a short one, now and then up to the limit of items.
 pub fn any_run(rng: &mut Rng) -> Run {
     let profile = match rng.below(24) {

@@ -1,6 +1,6 @@
 //! Random readable programs.
 
-use super::expressions::{expression, Role, Scope};
+use super::expressions::{expression, Role, Scope, Sums};
 use super::rng::Rng;
 use crate::program::{Kind, Program, Transition};
 
@@ -19,8 +19,20 @@ pub struct Size {
     pub states: usize,
     /// The largest T.
     pub transitions: usize,
-    /// The most operators in an expression; 7 make 15 tokens.
+    /// The most operators in an expression, but for those at an edge; 7 make 15 tokens.
     pub operators: usize,
+    /// How sums, differences and products are drawn.
+    pub sums: Sums,
+}
+
+impl Size {
+    /// The same size for programs as they were before #102.
+    pub fn dated(self) -> Size {
+        Size {
+            sums: Sums::Dated,
+            ..self
+        }
+    }
 }
 
 /// Small programs, for records that the exhaustive judge can take.
@@ -32,6 +44,7 @@ pub const SMALL: Size = Size {
     states: 4,
     transitions: 9,
     operators: 2,
+    sums: Sums::Edged,
 };
 /// Programs of two or three ranks, for records of middle length.
 pub const MIDDLE: Size = Size {
@@ -42,6 +55,7 @@ pub const MIDDLE: Size = Size {
     states: 6,
     transitions: 16,
     operators: 4,
+    sums: Sums::Edged,
 };
 /// Programs up to all the limits of document 01; `widen` takes them beyond its T, `many_ranks`
 /// beyond its N.
@@ -53,6 +67,7 @@ pub const WIDE: Size = Size {
     states: 64,
     transitions: 128,
     operators: 7,
+    sums: Sums::Edged,
 };
 /// Programs of many ranks and few cells, where accesses meet often.
 pub const CROWDED: Size = Size {
@@ -63,6 +78,7 @@ pub const CROWDED: Size = Size {
     states: 6,
     transitions: 20,
     operators: 7,
+    sums: Sums::Edged,
 };
 
 /// The kinds of transitions, each as often as it is to be drawn.
@@ -115,11 +131,16 @@ pub fn program_of(rng: &mut Rng, size: Size, ranks: usize, busy: &[usize]) -> Pr
         let scope = Scope {
             program: &program,
             busy,
+            registers: &[],
+            sums: size.sums,
         };
         let transition = transition(rng, scope, number, size.operators);
         program.transitions.push(transition);
     }
-    program
+    match size.sums {
+        Sums::Dated => program.dated(),
+        Sums::Edged => program,
+    }
 }
 
 /// A random transition; the first S of them leave each state once and lead on to the next.

@@ -51,7 +51,7 @@ impl Rng {
         self.bits() as u8
     }
 
-    /// A value, often near a wrap-around.
+    /// A value, often near an edge of the range.
     pub fn value(&mut self) -> u16 {
         const EDGES: [u16; 10] = [0, 1, 2, 3, 255, 256, 32767, 32768, 65534, 65535];
         if self.chance(2, 3) {

@@ -1,6 +1,6 @@
 //! More transitions than a run needs, so that it takes numbers of one byte and of two: #107.
 
-use super::expressions::Scope;
+use super::expressions::{Scope, Sums};
 use super::programs::{every_rank, transition};
 use super::rng::Rng;
 use crate::limits::MAX_TRANSITIONS;
@@ -108,7 +108,12 @@ fn filled(rng: &mut Rng, program: &Program, homes: &[Vec<usize>], size: usize) -
         }
     }
     let busy = &every_rank(program.ranks);
-    let scope = Scope { program, busy };
+    let scope = Scope {
+        program,
+        busy,
+        registers: &[],
+        sums: Sums::Edged,
+    };
     let mut fill = |(number, old): (usize, Option<&Transition>)| match old {
         Some(old) => old.clone(),
         None => transition(rng, scope, number, OPERATORS),

@@ -2,7 +2,7 @@
 
 #![allow(dead_code)]
 
-use second::check::{accept, Accepted, Answer};
+use second::check::{accept, accept_items, fill_bytes, Accepted, Answer};
 use second::corpus::{Case, CheckCase, SlipCase};
 use second::corpus_reader::{corpus_files, read_file};
 use second::extras::{compare_all_ranks, compare_extras, compare_slip_reader, Extras, Tally, Told};
@@ -10,11 +10,22 @@ use second::generator::rng::Rng;
 use second::generator::slips::slip_input;
 use second::generator::widen::{now_and_then, Run};
 use second::generator::{input, small_input};
+use second::groups::{arrows, gather};
 use second::harness::{between_guards, compare, compare_case, Subject};
 use second::judged::judge_observed;
-use second::limits::Refusal;
-use second::record::{record_bytes, Item};
+use second::limits::{Outcome, Refusal};
+use second::machine::{Machine, Run as Replayed, Start, Step};
+use second::order::decide;
+use second::program::Program;
+use second::record::{read_record, record_bytes, Item};
+use std::collections::{BTreeMap, BTreeSet};
 use std::path::Path;
+
+/// How often each thing was seen.
+pub type Times = BTreeMap<String, usize>;
+
+/// How a wrong program does one item.
+pub type StepMistake<'a> = &'a dyn Fn(&Program, &mut Machine, &Item) -> Result<Step, u8>;
 
 /// Generated inputs that a wrong subject has to be caught within.
 const INPUTS: u64 = 2_500;
@@ -40,8 +51,58 @@ pub fn first_misjudged(subject: Subject) -> Option<(u64, String)> {
     (0..RECORDS).find_map(misjudged)
 }
 
+/// A replay whose items are done in another way.
+pub fn replay_by(step: StepMistake, program: &Program, items: &[Item]) -> Outcome<Replayed> {
+    let mut machine = Machine::new(program, &Start::zero(program));
+    let mut steps = Vec::new();
+    for (place, item) in items.iter().enumerate() {
+        let done = step(program, &mut machine, item);
+        steps.push(done.map_err(|number| Refusal { number, place })?);
+    }
+    let place = items.len();
+    match (machine.open_row, machine.queues_empty()) {
+        (Some(_), _) => Err(Refusal { number: 12, place }),
+        (None, false) => Err(Refusal { number: 13, place }),
+        (None, true) => Ok(Replayed {
+            steps,
+            last: machine,
+        }),
+    }
+}
+
+/// The whole check with items done in another way.
+pub fn check_by(
+    step: StepMistake,
+    [program, record]: [&[u8]; 2],
+    [order, cells]: [&mut [u8]; 2],
+) -> Answer {
+    let accepted = Program::read(program).and_then(|program| {
+        let items = read_record(record, &program)?;
+        let run = replay_by(step, &program, &items)?;
+        let grouping = gather(&run.steps);
+        let arrows = arrows(&run.steps, &grouping.group_of);
+        let verdict = decide(grouping.groups.len(), &arrows);
+        Ok(Accepted {
+            program,
+            items,
+            run,
+            grouping,
+            verdict,
+        })
+    });
+    fill_bytes(accepted, order, cells)
+}
+
+/// Accepts as before #102, when sums came round.
+pub fn accept_dated(program: &[u8], record: &[u8]) -> Outcome<Accepted> {
+    let program = Program::read(program)?;
+    let items = read_record(record, &program)?;
+    let start = Start::zero(&program);
+    accept_items(program.dated(), items, &start)
+}
+
 /// All cases of the corpus.
-fn cases() -> Vec<Case> {
+pub fn cases() -> Vec<Case> {
     let directory = Path::new(env!("CARGO_MANIFEST_DIR")).join("../vectors");
     let files = corpus_files(&directory).expect("the corpus is there");
     let read = |file| read_file(file).expect("the corpus is well formed");
@@ -163,4 +224,19 @@ pub fn accepted(made: fn(&mut Rng) -> Run, seed: u64, index: u64) -> Accepted {
 pub fn takes_high(items: &[Item]) -> bool {
     let is_high = |item: &Item| item.act.transition() >= Some(256);
     items.iter().any(is_high)
+}
+
+/// Counts what was seen.
+pub fn count(times: &mut Times, seen: BTreeSet<String>) {
+    for what in seen {
+        *times.entry(what).or_default() += 1;
+    }
+}
+
+/// Fails unless so many things were seen, none of them rarely.
+pub fn assert_seen(times: &Times, things: usize, least: usize) {
+    println!("{times:#?}");
+    let rare: Vec<_> = times.iter().filter(|(_, &times)| times < least).collect();
+    assert!(rare.is_empty(), "rare {rare:?}");
+    assert_eq!(times.len(), things);
 }

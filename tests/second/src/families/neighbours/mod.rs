@@ -9,14 +9,15 @@ mod rings;
 mod taken;
 mod waiting;
 
-use super::chosen::{judged_cases, Source};
+use super::chosen::{renewed_cases, Source};
 use super::parts::{command, naming, popa, popb, read, store, write};
-use super::row::{own_order, Row};
+use super::row::{cells_with, own_order, Row};
 use super::{judge_accepted, Named};
 use crate::corpus::Expected;
-use crate::generator::neighbours::small_run;
+use crate::generator::neighbours::{dated_small_run, small_run};
 use crate::generator::rng::Rng;
 use crate::generator::widen::Run;
+use crate::generator::Maker;
 use crate::machine::{Machine, Start};
 use crate::program::{Kind, Program, Transition};
 use crate::record::{record_bytes, Item};
@@ -170,15 +171,6 @@ fn issued(transfers: &[Transfer]) -> Vec<Item> {
     transfers.iter().enumerate().map(issue).collect()
 }
 
-/// The cell list of a program: these cells have these values, all others 0.
-fn cells(program: &Program, values: &[(Place, u16)]) -> Vec<u16> {
-    let mut cells = vec![0; program.ranks * program.cells];
-    for &((rank, cell), value) in values {
-        cells[program.cells * (rank - 1) + cell] = value;
-    }
-    cells
-}
-
 /// A refused row with these bytes.
 fn refused_bytes(what: &str, inputs: [Vec<u8>; 2], number: u8, place: usize) -> Row {
     Row::refused(FAMILY, what, inputs, number, place)
@@ -198,7 +190,7 @@ fn accepted(
     answer: Expected,
     values: &[(Place, u16)],
 ) -> Row {
-    let last = cells(program, values);
+    let last = cells_with(program, values);
     Row::accepted(FAMILY, what, (program, items), answer, last)
 }
 
@@ -218,8 +210,18 @@ fn rows() -> Vec<Row> {
 
 /// A small random run with a short record, in which a transfer overtakes another.
 fn overtaking_run(rng: &mut Rng) -> Run {
+    overtaking(rng, small_run)
+}
+
+/// The same as before #102.
+fn dated_overtaking_run(rng: &mut Rng) -> Run {
+    overtaking(rng, dated_small_run)
+}
+
+/// The first run made so that has a short record and in which a transfer overtakes another.
+fn overtaking(rng: &mut Rng, maker: Maker) -> Run {
     loop {
-        let (program, items) = small_run(rng);
+        let (program, items) = maker(rng);
         let short = record_bytes(&items).len() <= JUDGED_BYTES;
         if short && overtakes(&program, &items) {
             return (program, items);
@@ -246,12 +248,17 @@ pub fn file(seed: u64) -> Result<Named, String> {
         judge_accepted(&row.program, &row.record)?;
         cases.push(row.case()?);
     }
-    cases.extend(judged_cases(&Source {
+    let dated = Source {
         family: "neighbours-judged",
-        maker: overtaking_run,
+        maker: dated_overtaking_run,
         seed,
         per_kind: JUDGED_PER_KIND,
-    })?);
+    };
+    cases.extend(renewed_cases(
+        &dated,
+        "neighbours-judged-later",
+        overtaking_run,
+    )?);
     let head = "# Order only towards one neighbour, #108 of document 02; answers worked out by \
         hand, and after\n# them small runs confirmed by the exhaustive judge.\n";
     Ok(Named::new("neighbours.txt", head, &cases))

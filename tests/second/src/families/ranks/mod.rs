@@ -10,7 +10,7 @@ mod runs;
 mod slip_reader;
 mod slip_writer;
 
-use super::chosen::{judged_cases, Source};
+use super::chosen::{renewed_cases, Source};
 use super::row::{own_order, Row};
 use super::{judge_accepted, Named};
 use crate::corpus::Expected;
@@ -94,12 +94,17 @@ pub fn file(seed: u64) -> Result<Named, String> {
         cases.push(row.case()?);
     }
     cases.extend(slip_reader::cases()?);
-    cases.extend(judged_cases(&Source {
+    let dated = Source {
         family: "ranks-judged",
-        maker: many_ranks::small_run,
+        maker: many_ranks::dated_small_run,
         seed,
         per_kind: JUDGED_PER_KIND,
-    })?);
+    };
+    cases.extend(renewed_cases(
+        &dated,
+        "ranks-judged-later",
+        many_ranks::small_run,
+    )?);
     let head =
         "# Sixteen ranks, #105 of document 02; answers worked out by hand, and after them small \
         runs\n# confirmed by the exhaustive judge.\n";
