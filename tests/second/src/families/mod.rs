@@ -9,6 +9,7 @@ pub mod ranks;
 pub mod replay_table;
 pub mod row;
 pub mod slips;
+pub mod sums;
 pub mod table;
 pub mod transitions;
 
@@ -52,6 +53,7 @@ pub fn files(seed: u64) -> Result<Vec<Named>, String> {
         transitions::file()?,
         ranks::file(seed)?,
         neighbours::file(seed)?,
+        sums::file(seed)?,
     ])
 }
 
