@@ -44,6 +44,7 @@ pub struct Delivery {
     pub group: u16,
 }
 
+// A number of an entry, read and stored.
 pub fn field_at(pool: &Pool, entry: u16, field: usize) -> u16
     ensures { λ r. ⌜ r ≡ numberAt poolSize (now (pool .entry)) entry field ⌝ }
 {
@@ -109,6 +110,7 @@ pub fn delivery_at(pool: &Pool, entry: u16) -> Delivery
     }
 }
 
+// The entry that stands for a request from now on.
 pub fn set_request(pool: &mut Pool, entry: u16, request: Request)
     ensures { λ r. ⌜ now (pool .exit) ≡ requestStored (now (pool .entry)) entry request ⌝ }
 {
