@@ -11,12 +11,18 @@ use Rattle.model.specs.Choice.{when}
 use Rattle.memory.specs.Tables.{Row, Rank, Shaped}
 use Rattle.memory.proofs.Stores.{shaped, number-same, number-other}
 use Rattle.entries.specs.Entries.{poolSize, linkField}
-use Rattle.links.specs.Lists.{Queues, endsSize, listsOfRank, headEnd, tailEnd}
+use Rattle.links.specs.declared.Part.{Part}
+use Rattle.links.specs.Lists.{Queues, endsSize, listsOfRank, listOf, headEnd, tailEnd, nextOf}
 use Rattle.links.specs.Lists.{follower, endOf, withField, withEnd, nextSet, linked, unlinked}
 use Rattle.links.specs.Chains.{first, lastOr, All, Once, Run, Chain}
 use Rattle.links.proofs.EntryLists.{all-left, all-right, all-last, all-map, all-of}
 use Rattle.links.proofs.EntryLists.{once-left, once-across, last-append, run-kept, run-right, run-exchanged}
 use Rattle.links.proofs.Changes.{head-no-tail, tail-held, next-changed, next-follower, next-head, next-ends, next-tail}
+
+-- The next entry of a queue's part is its list's first, where a search begins.
+pub next-told : {t : Queues} {rank : ℕ} {es : List ℕ} (queue : ℕ) (part : Part) → Chain t rank (listOf queue part) es →
+    nextOf (t .ends) rank queue part ≡ first es
+next-told queue part chain = chain .head
 
 -- The last of some named entries is named, if there is one.
 last-named : (x : ℕ) (xs : List ℕ) → All (Row maxItems) (x ∷ xs) → Row maxItems (lastOr x xs)

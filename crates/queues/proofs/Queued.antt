@@ -28,6 +28,7 @@ use Rattle.queues.specs.Queued.{bareRequest, bareDelivery, sent, Queued}
 use Rattle.queues.proofs.Every.{every-same}
 use Rattle.links.proofs.EntryLists.{all-map, once-few}
 use Rattle.queues.proofs.Contents.{Says, contents-empty}
+use Rattle.links.proofs.Chains.{next-told}
 use Rattle.links.proofs.Searches.{Waiting, positionOf, Tells, search-tells}
 use Rattle.queues.proofs.Moves.{list-held, append-entry, fetch-entry, deliver-entry}
 
@@ -81,7 +82,7 @@ module _ {most : ℕ} {t : Queues} {requests : ℕ → ℕ → List (Asked Origi
     es = held .entries rank (listOf queue part)
 
     head-told : nextOf (t .ends) rank queue part ≡ first es
-    head-told = held .chained .chains rank (listOf queue part) r (list-held part queue q) .head
+    head-told = next-told queue part (held .chained .chains rank (listOf queue part) r (list-held part queue q))
 
     rows : All (Row maxItems) es
     rows =
