@@ -6,7 +6,7 @@ ghost use Rattle.model.specs.Expressions as Expressions;
 ghost use Rattle.model.specs.Expressions.{inRange, operate, tokens};
 ghost use Rattle.expressions.specs.Values.{optionToken, operatorOf, valueIn, optionIn};
 
-// "Values are unsigned 16-bit numbers": there are so many of them.
+// "Values are unsigned 16-bit numbers": there are so many of them, and this number is none.
 const VALUES: u32 = 65536;
 
 // A token that stands for a value by itself.

@@ -1,6 +1,6 @@
 -- An answer is read back from its two numbers: a refusal's number is one of the check's, and so neither an order's nor a ring's.
 use Prim.Native.Nat.{ℕ}
-use mathlib.Core.Path.{_≡_, refl, ap, _∙_}
+use mathlib.Core.Path.{_≡_, refl, ap}
 use mathlib.Core.Bool.{false, false≢true}
 use mathlib.Core.List.{List}
 use lib.Dec.{eqb}

@@ -1,5 +1,5 @@
 -- The replay (document 01, "Steps of the replay"): items in turn, from any start, each taken or refused in the order "12 first, for pops too, then
--- 7, 8, 9, 11; a pop has 10 before 11".
+-- 7, 8, 9, 11; a pop has 10 before 11", and document 02's 18 "after 7 and before 8 and 9".
 use Prim.Native.Nat.{ℕ, _+_, _-_}
 use mathlib.Core.Bool.{Bool, true, false, _&&_, _||_}
 use mathlib.Core.List.{List, [], _∷_, _++_}

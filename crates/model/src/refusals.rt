@@ -1,4 +1,4 @@
-// The rows of document 01's table by name, as in specs/Refusals.antt, which has the table's words.
+// The rows of document 01's table, and document 02's numbers, by name, as in specs/Refusals.antt, which has their words.
 pub const PROGRAM_LENGTH: u8 = 1;
 
 pub const PROGRAM_RANGE: u8 = 2;
