@@ -43,13 +43,13 @@ use Rattle.model.specs.Listings.{listingIn, listing}
 /// A theorem and the name of its case.
 type Named<'a> = (&'a str, Theorem);
 
-/// The theorems of a case, none if it is too long.
-fn theorems_of(case: &Case) -> Vec<Theorem> {
+/// The theorems of a case, the one with this number; none if it is too long.
+fn theorems_of(number: usize, case: &Case) -> Vec<Theorem> {
     let Case::Check(check) = case else {
-        return theorems::of_case(case);
+        return theorems::of_case(number, case);
     };
     match (check.program.len(), check.record.len()) {
-        (program, record) if program + record <= LONGEST => theorems::of_case(case),
+        (program, record) if program + record <= LONGEST => theorems::of_case(number, case),
         (0..=LONGEST_PROGRAM, 0..=LONGEST_RECORD) => theorems::of_run(check).into_iter().collect(),
         _ => vec![],
     }
@@ -139,7 +139,8 @@ fn write(repository: &Path, out: &Path, files: &[String]) -> Result<String, Stri
     }
     let computed: Vec<(&Case, Vec<Theorem>)> = cases
         .iter()
-        .map(|case| (case, theorems_of(case)))
+        .enumerate()
+        .map(|(number, case)| (case, theorems_of(number, case)))
         .filter(|(_, theorems)| !theorems.is_empty())
         .collect();
     let (count, left) = (computed.len(), cases.len() - computed.len());

@@ -237,13 +237,20 @@ pub fn of_run(case: &CheckCase) -> Option<Theorem> {
     }
 }
 
-/// The theorems of a case.
-pub fn of_case(case: &Case) -> Vec<Theorem> {
-    match case {
-        Case::Slip(case) => vec![slip_read(case)],
-        Case::Check(case) => [checked(case), slips_written(case), listed(case)]
-            .into_iter()
-            .flatten()
-            .collect(),
+/// The theorems of a case, the one with this number. A refused one is refused by the same part of all four definitions, so it has the
+/// theorem of the check and, in turn with other cases, one of the others.
+pub fn of_case(number: usize, case: &Case) -> Vec<Theorem> {
+    let case = match case {
+        Case::Slip(case) => return vec![slip_read(case)],
+        Case::Check(case) => case,
+    };
+    let mut theorems = checked(case);
+    theorems.extend(slips_written(case));
+    theorems.extend(listed(case));
+    if case.slip.is_none() {
+        let mut others = theorems.split_off(1);
+        let turn = number % others.len();
+        theorems.push(others.swap_remove(turn));
     }
+    theorems
 }
