@@ -24,7 +24,7 @@ use Rattle.fields.specs.Fields.{fieldOf, _>>=_}
 use Rattle.fields.proofs.Fields.{field-told, field-goes-on}
 use Rattle.record.specs.declared.item.ItemRead as ItemRead
 use Rattle.record.specs.declared.item.ItemRead.{ItemRead}
-use Rattle.record.specs.Optional.{rankField, numberField, lowField, transitionField, cellField, valueField}
+use Rattle.item_fields.specs.Optional.{rankField, numberField, lowField, transitionField, cellField, valueField}
 use Rattle.record.specs.Items.{bare, given, withEnd, itemRead, readActor, readQueue, readPlace, readEnd}
 
 -- What follows map and kind, which stand at `at`.

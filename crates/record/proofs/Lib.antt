@@ -1,4 +1,3 @@
 -- The laws behind the readers' proofs, and those that the replay cites of a record that was read.
-pub mod TransitionBytes
 pub mod Items
 pub mod Places

@@ -14,7 +14,7 @@ use Rattle.model.specs.Records.{givenValue}
 use Rattle.fields.specs.Fields.{_>>=_}
 use Rattle.record.specs.declared.item.ItemRead as ItemRead
 use Rattle.record.specs.declared.item.ItemRead.{ItemRead}
-use Rattle.record.specs.Optional.{rankField, numberField, lowField, transitionField, cellField}
+use Rattle.item_fields.specs.Optional.{rankField, numberField, lowField, transitionField, cellField}
 
 -- An item of which only the kind is known.
 abbrev pub bare : Kind → Item

@@ -1,4 +1,3 @@
 -- What the readers answer, by the definitions of document 01.
-pub mod Optional
 pub mod Items
 pub mod Places

@@ -1,14 +1,14 @@
 // One item at a place: map and kind, then the fields whose bit stands, in bit order. Each function reads one or two fields into the item and hands it
 // on, so that an item is read once, front to back, and its first fault is the answer.
-use crate::optional::read_cell;
-use crate::optional::read_low_byte;
-use crate::optional::read_number;
-use crate::optional::read_rank;
-use crate::optional::read_transition;
-use crate::optional::read_value;
 use fields::Field;
 use fields::bit;
 use fields::read_byte;
+use item_fields::read_cell;
+use item_fields::read_low_byte;
+use item_fields::read_number;
+use item_fields::read_rank;
+use item_fields::read_transition;
+use item_fields::read_value;
 use item_forms::item_form;
 use model::Address;
 use model::Given;

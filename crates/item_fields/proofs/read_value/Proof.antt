@@ -1,9 +1,9 @@
 -- `read_value`: where the bit stands, the answer is the word. Assumes nothing.
 use borrow.Author.Needs.{needs}
 use Rattle.fields.proofs.Fields.{absent-field, present-field}
-use Rattle.record.specs.Optional.{valueField}
-use Rattle.record.proofs.optional.read_value.Statement.{statement}
-use Rattle.record.proofs.optional.read_value.Tie as tie
+use Rattle.item_fields.specs.Optional.{valueField}
+use Rattle.item_fields.proofs.read_value.Statement.{statement}
+use Rattle.item_fields.proofs.read_value.Tie as tie
 
 pub read-value-spec : {M : Type 1} → statement M
 unfolding valueField

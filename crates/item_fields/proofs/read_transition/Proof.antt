@@ -2,10 +2,10 @@
 -- `TransitionBytes`. Assumes nothing.
 use borrow.Author.Needs.{needs}
 use Rattle.fields.proofs.Fields.{absent-field, present-field}
-use Rattle.record.specs.Optional.{transitionField}
-use Rattle.record.proofs.TransitionBytes.{no-high, zero-high, high-above, high-read}
-use Rattle.record.proofs.optional.read_transition.Statement.{statement}
-use Rattle.record.proofs.optional.read_transition.Tie as tie
+use Rattle.item_fields.specs.Optional.{transitionField}
+use Rattle.item_fields.proofs.TransitionBytes.{no-high, zero-high, high-above, high-read}
+use Rattle.item_fields.proofs.read_transition.Statement.{statement}
+use Rattle.item_fields.proofs.read_transition.Tie as tie
 
 missing : tie.Need-returns
 unfolding transitionField

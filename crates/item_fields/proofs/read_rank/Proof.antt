@@ -1,9 +1,9 @@
 -- `read_rank`: where the bit stands, the answer is the judged byte. Assumes nothing.
 use borrow.Author.Needs.{needs}
 use Rattle.fields.proofs.Fields.{judged-read, absent-field, present-field}
-use Rattle.record.specs.Optional.{rankField}
-use Rattle.record.proofs.optional.read_rank.Statement.{statement}
-use Rattle.record.proofs.optional.read_rank.Tie as tie
+use Rattle.item_fields.specs.Optional.{rankField}
+use Rattle.item_fields.proofs.read_rank.Statement.{statement}
+use Rattle.item_fields.proofs.read_rank.Tie as tie
 
 there : tie.Need-returns
 unfolding rankField

@@ -1,9 +1,9 @@
 -- `read_number`: where the bit stands, the answer is the judged byte. Assumes nothing.
 use borrow.Author.Needs.{needs}
 use Rattle.fields.proofs.Fields.{judged-read, absent-field, present-field}
-use Rattle.record.specs.Optional.{numberField}
-use Rattle.record.proofs.optional.read_number.Statement.{statement}
-use Rattle.record.proofs.optional.read_number.Tie as tie
+use Rattle.item_fields.specs.Optional.{numberField}
+use Rattle.item_fields.proofs.read_number.Statement.{statement}
+use Rattle.item_fields.proofs.read_number.Tie as tie
 
 there : tie.Need-returns
 unfolding numberField

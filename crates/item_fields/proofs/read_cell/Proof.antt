@@ -1,9 +1,9 @@
 -- `read_cell`: where the bit stands, the answer is the judged word. Assumes nothing.
 use borrow.Author.Needs.{needs}
 use Rattle.fields.proofs.Fields.{judged-read, absent-field, present-field}
-use Rattle.record.specs.Optional.{cellField}
-use Rattle.record.proofs.optional.read_cell.Statement.{statement}
-use Rattle.record.proofs.optional.read_cell.Tie as tie
+use Rattle.item_fields.specs.Optional.{cellField}
+use Rattle.item_fields.proofs.read_cell.Statement.{statement}
+use Rattle.item_fields.proofs.read_cell.Tie as tie
 
 there : tie.Need-returns
 unfolding cellField

@@ -1,10 +1,10 @@
 -- `read_low_byte`: where the bit stands, the answer is the byte, judged unless a high byte follows. Assumes nothing.
 use borrow.Author.Needs.{needs}
 use Rattle.fields.proofs.Fields.{absent-field}
-use Rattle.record.specs.Optional.{lowField}
-use Rattle.record.proofs.TransitionBytes.{low-unjudged, low-judged}
-use Rattle.record.proofs.optional.read_low_byte.Statement.{statement}
-use Rattle.record.proofs.optional.read_low_byte.Tie as tie
+use Rattle.item_fields.specs.Optional.{lowField}
+use Rattle.item_fields.proofs.TransitionBytes.{low-unjudged, low-judged}
+use Rattle.item_fields.proofs.read_low_byte.Statement.{statement}
+use Rattle.item_fields.proofs.read_low_byte.Tie as tie
 
 unjudged : tie.Need-returns
 unjudged c =

@@ -15,7 +15,7 @@ use Rattle.fields.specs.declared.Field.{Field}
 use Rattle.fields.specs.declared.Field.the-variants.{Read, Refused}
 use Rattle.fields.specs.Fields.{fieldOf, judgedField}
 use Rattle.fields.proofs.Fields.{field-told, judged-read}
-use Rattle.record.specs.Optional.{lowField}
+use Rattle.item_fields.specs.Optional.{lowField}
 
 module _ (transitions : ℕ) (bytes : List ℕ) (at : ℕ) {x : Field} (p : x ≡ fieldOf (byte recordLength bytes at)) {present high : Bool}
     (there : present ≡ true) where

@@ -9,7 +9,7 @@ use model::refusals::RECORD_LENGTH;
 use model::refusals::RECORD_RANGE;
 ghost use mathlib.Core.Path.{_≡_};
 ghost use Rattle.fields.specs.Fields.{fieldOf};
-ghost use Rattle.record.specs.Optional.{rankField, numberField, lowField, transitionField, cellField, valueField};
+ghost use Rattle.item_fields.specs.Optional.{rankField, numberField, lowField, transitionField, cellField, valueField};
 
 // A rank, from 1 to `ranks`.
 pub fn read_rank(bytes: &[u8], at: usize, present: bool, ranks: u16) -> Field

@@ -1,0 +1,2 @@
+-- A transition's number in one byte or two.
+pub mod TransitionBytes
