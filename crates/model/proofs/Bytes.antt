@@ -113,6 +113,13 @@ finds-times zero finds = finds-pure [] all
 finds-times (suc n) finds =
     finds-bind finds λ a holds. finds-bind (finds-times n finds) λ rest each. finds-pure (a ∷ rest) (one holds each)
 
+-- So many were asked for, so many were read.
+pub finds-counted : {bytes : List ℕ} {A : Type 0} (n : ℕ) (read : Reader A) → Finds bytes (times n read) (λ l. length l ≡ n)
+unfolding times
+finds-counted zero read = finds-pure [] refl
+finds-counted (suc n) read =
+    finds-bind (finds-anything read) λ a _. finds-bind (finds-counted n read) λ rest counted. finds-pure (a ∷ rest) (ap suc counted)
+
 -- A byte and a word are as small as their bytes are.
 pub finds-byte : {bytes : List ℕ} (early : ℕ) → Finds bytes (byte early) (λ v. AreBytes bytes → v < byteValues)
 finds-byte {bytes} early =

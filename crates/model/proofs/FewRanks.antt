@@ -1,5 +1,5 @@
 -- A limit of ranks that a program stays within makes no difference to it: two formats that differ in their most ranks alone give it the same answer,
--- lists, slip and listing, whatever record and lent memory come with it, and refuse the same with the same place. Today's format is
+-- lists, slip and listing, whatever start, record and lent memory come with it, and refuse the same with the same place. Today's format is
 -- `upTo maxRanks today`, and before #105 it was `upTo byteRanks today`: "The verdict on small runs is to be shown unchanged". So do they with a slip
 -- of so many ranks, and the map of at most eight is a byte: "kept slips of smaller machines read as they did".
 use Prim.Native.Nat.{ℕ, _≤_}
@@ -16,7 +16,6 @@ use Rattle.model.specs.Formats.{Format, upTo}
 use Rattle.model.specs.Programs.{headerNumber, readHeaderIn, programReaderIn, readProgramIn}
 use Rattle.model.specs.ItemForms.{itemFormIn}
 use Rattle.model.specs.Records.{readItemIn, recordReaderIn, readRecordIn}
-use Rattle.model.specs.Machine.{Start, zeroStart}
 use Rattle.model.specs.Checks.{acceptIn, checkResultIn, checkIn, checkBytesIn}
 use Rattle.model.specs.Slips.{mapBytes, mapField, writeSlipIn, readSlipIn}
 use Rattle.model.specs.Listings.{listingIn}
@@ -39,30 +38,30 @@ module _ (format : Format) {limit other : ℕ} where
     unfolding readProgramIn programReaderIn readHeaderIn whole
     program-agrees = rw (number-agrees program few also)
 
-    pub accept-agrees : (start : Start) (recorded : List ℕ) →
-        acceptIn (upTo limit format) start program recorded ≡ acceptIn (upTo other format) start program recorded
+    pub accept-agrees : (start recorded : List ℕ) →
+        acceptIn (upTo limit format) program start recorded ≡ acceptIn (upTo other format) program start recorded
     unfolding acceptIn readRecordIn recordReaderIn readItemIn itemFormIn
     accept-agrees start recorded = rw program-agrees
 
-    pub check-agrees : (recorded order cells : List ℕ) →
-        checkIn (upTo limit format) program recorded order cells ≡ checkIn (upTo other format) program recorded order cells
+    pub check-agrees : (start recorded order cells : List ℕ) →
+        checkIn (upTo limit format) program start recorded order cells ≡ checkIn (upTo other format) program start recorded order cells
     unfolding checkIn checkResultIn
-    check-agrees recorded order cells = rw (accept-agrees zeroStart recorded)
+    check-agrees start recorded order cells = rw (accept-agrees start recorded)
 
-    pub entry-agrees : (recorded order cells : List ℕ) →
-        checkBytesIn (upTo limit format) program recorded order cells ≡ checkBytesIn (upTo other format) program recorded order cells
+    pub entry-agrees : (start recorded order cells : List ℕ) →
+        checkBytesIn (upTo limit format) program start recorded order cells ≡ checkBytesIn (upTo other format) program start recorded order cells
     unfolding checkBytesIn checkResultIn
-    entry-agrees recorded order cells = rw (accept-agrees zeroStart recorded)
+    entry-agrees start recorded order cells = rw (accept-agrees start recorded)
 
-    pub slip-agrees : (recorded memory : List ℕ) →
-        writeSlipIn (upTo limit format) program recorded memory ≡ writeSlipIn (upTo other format) program recorded memory
+    pub slip-agrees : (start recorded memory : List ℕ) →
+        writeSlipIn (upTo limit format) program start recorded memory ≡ writeSlipIn (upTo other format) program start recorded memory
     unfolding writeSlipIn
-    slip-agrees recorded memory = rw (accept-agrees zeroStart recorded)
+    slip-agrees start recorded memory = rw (accept-agrees start recorded)
 
-    pub listing-agrees : (recorded memory : List ℕ) →
-        listingIn (upTo limit format) program recorded memory ≡ listingIn (upTo other format) program recorded memory
+    pub listing-agrees : (start recorded memory : List ℕ) →
+        listingIn (upTo limit format) program start recorded memory ≡ listingIn (upTo other format) program start recorded memory
     unfolding listingIn
-    listing-agrees recorded memory = rw (accept-agrees zeroStart recorded)
+    listing-agrees start recorded memory = rw (accept-agrees start recorded)
 
   pub reading-agrees : (ranks : ℕ) → ranks ≤ limit → ranks ≤ other → (slip counts : List ℕ) →
       readSlipIn (upTo limit format) ranks slip counts ≡ readSlipIn (upTo other format) ranks slip counts

@@ -25,7 +25,7 @@ use Rattle.model.specs.Formats.{Format, document01, today, original}
 use Rattle.model.specs.Programs.{Program, headerNumber, countByte, transitionCount, readHeaderIn, programReaderIn, readProgramIn}
 use Rattle.model.specs.ItemForms.{formOf, itemFormIn, judgedItemForm}
 use Rattle.model.specs.Records.{readItemIn, recordReaderIn, readRecordIn}
-use Rattle.model.specs.Machine.{Start, zeroStart}
+use Rattle.model.specs.StartBytes.{readStart}
 use Rattle.model.specs.Checks.{Accepted, acceptIn, checkResultIn, checkIn, checkBytesIn}
 use Rattle.model.specs.Slips.{writeSlipIn}
 use Rattle.model.specs.Listings.{listingIn}
@@ -150,33 +150,33 @@ module _ {old new : Format} (wider : Extends old new) where
       (keeps-bind (keeps-same (judged (λ n. leb n maxItems) recordRange (word recordLength))) λ count. keeps-times count (item-kept header))
 
   -- An accepted record of a readable program.
-  module _ (program recorded : List ℕ) {a : Accepted} where
-    pub accepted-kept : (start : Start) → acceptIn old start program recorded ≡ ok a → acceptIn new start program recorded ≡ ok a
+  module _ (program start recorded : List ℕ) {a : Accepted} (accepted : acceptIn old program start recorded ≡ ok a) where
+    pub accepted-kept : acceptIn new program start recorded ≡ ok a
     unfolding acceptIn
-    accepted-kept start h =
-        let (P, read, h₁) = bind-ok (readProgramIn old program) _ h in
-        let (items, told, h₂) = bind-ok (readRecordIn old (P .header) recorded) _ h₁ in
-        rw (program-kept program read, record-kept (P .header) recorded told) h₂
+    accepted-kept =
+        let (P, read, h₁) = bind-ok (readProgramIn old program) _ accepted in
+        let (readings, begun, h₂) = bind-ok (readStart (P .header) start) _ h₁ in
+        let (items, told, h₃) = bind-ok (readRecordIn old (P .header) recorded) _ h₂ in
+        rw (program-kept program read, begun, record-kept (P .header) recorded told) h₃
 
     -- Its answer, lists, slip and listing, for whatever lent memory.
-    module _ (accepted : acceptIn old zeroStart program recorded ≡ ok a) where
-      result-kept : (orderLength cellsLength : ℕ) →
-          checkResultIn new zeroStart program recorded orderLength cellsLength ≡ checkResultIn old zeroStart program recorded orderLength cellsLength
-      unfolding checkResultIn
-      result-kept orderLength cellsLength = rw (accepted, accepted-kept zeroStart accepted)
+    result-kept : (orderLength cellsLength : ℕ) →
+        checkResultIn new program start recorded orderLength cellsLength ≡ checkResultIn old program start recorded orderLength cellsLength
+    unfolding checkResultIn
+    result-kept orderLength cellsLength = rw (accepted, accepted-kept)
 
-      pub check-kept : (order cells : List ℕ) → checkIn new program recorded order cells ≡ checkIn old program recorded order cells
-      unfolding checkIn
-      check-kept order cells = rw (result-kept (length order) (length cells))
+    pub check-kept : (order cells : List ℕ) → checkIn new program start recorded order cells ≡ checkIn old program start recorded order cells
+    unfolding checkIn
+    check-kept order cells = rw (result-kept (length order) (length cells))
 
-      pub entry-kept : (order cells : List ℕ) → checkBytesIn new program recorded order cells ≡ checkBytesIn old program recorded order cells
-      unfolding checkBytesIn
-      entry-kept order cells = rw (result-kept (length order / 2) (length cells / 2))
+    pub entry-kept : (order cells : List ℕ) → checkBytesIn new program start recorded order cells ≡ checkBytesIn old program start recorded order cells
+    unfolding checkBytesIn
+    entry-kept order cells = rw (result-kept (length order / 2) (length cells / 2))
 
-      pub slip-kept : (memory : List ℕ) → writeSlipIn new program recorded memory ≡ writeSlipIn old program recorded memory
-      unfolding writeSlipIn
-      slip-kept memory = rw (accepted, accepted-kept zeroStart accepted)
+    pub slip-kept : (memory : List ℕ) → writeSlipIn new program start recorded memory ≡ writeSlipIn old program start recorded memory
+    unfolding writeSlipIn
+    slip-kept memory = rw (accepted, accepted-kept)
 
-      pub listing-kept : (memory : List ℕ) → listingIn new program recorded memory ≡ listingIn old program recorded memory
-      unfolding listingIn
-      listing-kept memory = rw (accepted, accepted-kept zeroStart accepted)
+    pub listing-kept : (memory : List ℕ) → listingIn new program start recorded memory ≡ listingIn old program start recorded memory
+    unfolding listingIn
+    listing-kept memory = rw (accepted, accepted-kept)

@@ -18,6 +18,8 @@ pub mod Records
 pub mod Ranges
 pub mod Actions
 pub mod Replay
+pub mod Accepted
+pub mod Lending
 pub mod Listings
 pub mod Samples
 pub mod StarredRuns

@@ -42,9 +42,13 @@ unfolding join
 deliveries = join ((29 ∷ 8 ∷ 1 ∷ 0 ∷ 2 ∷ 0 ∷ 1 ∷ []) ∷ (29 ∷ 8 ∷ 2 ∷ 0 ∷ 1 ∷ 0 ∷ 1 ∷ []) ∷ [])
 
 -- b: ".. load 1 (value 0), popb 1, popb 2"; c: "as b with the load last (value 2)".
-unfoldable pub lateDelivery : List ℕ
+unfoldable pub lateAfter : (loaded : ℕ) → List ℕ
 unfolding exchange loadOf deliveries
-lateDelivery = 0 ∷ 11 ∷ (exchange ++ (loadOf 0 ++ deliveries))
+lateAfter loaded = 0 ∷ 11 ∷ (exchange ++ (loadOf loaded ++ deliveries))
+
+unfoldable pub lateDelivery : List ℕ
+unfolding lateAfter
+lateDelivery = lateAfter 0
 
 unfoldable pub deliveryFirst : List ℕ
 unfolding exchange loadOf deliveries
@@ -232,3 +236,15 @@ popAny kind placeRank cell = 29 ∷ kind ∷ 1 ∷ 0 ∷ placeRank ∷ 0 ∷ cel
 
 unfoldable pub popFor : (kind placeRank cell remote : ℕ) → List ℕ
 popFor kind placeRank cell remote = 93 ∷ kind ∷ 1 ∷ 0 ∷ placeRank ∷ 0 ∷ cell ∷ remote ∷ []
+
+-- Starts: a rank's map, whose first and last bytes these are, with the values that it lists; no reading at all; and 2,314 in cell 1 of rank 1 of 2.
+unfoldable pub readings : (first last : ℕ) → (values : List ℕ) → List ℕ
+readings first last values = first ∷ 0 ∷ 0 ∷ 0 ∷ 0 ∷ 0 ∷ 0 ∷ last ∷ values
+
+unfoldable pub noReadings : List ℕ
+unfolding readings
+noReadings = readings 0 0 []
+
+unfoldable pub gaugeStart : List ℕ
+unfolding readings noReadings
+gaugeStart = readings 0 2 (9 ∷ 10 ∷ []) ++ noReadings

@@ -1,5 +1,5 @@
 -- The starred runs of document 01, a run for each refusal and each of its "Mistakes that look sound", and the forms and refusals that document 02's
--- #107, #105, #108 and #102 brought, as one table in seven sections. Expected answers were worked out by hand from the papers. A theorem for each section,
+-- #107, #105, #108, #102 and #103 brought, as one table in eight sections. Expected answers were worked out by hand from the papers. A theorem for each section,
 -- and one for the table, says that the definitions give each of them.
 use Prim.Native.Nat.{ℕ, _+_, _-_}
 use mathlib.Core.Path.{_≡_, refl, sym, _∙_, ap₂}
@@ -12,18 +12,24 @@ use Rattle.model.specs.declared.Filled.the-variants.{Entries}
 use Rattle.model.specs.declared.Refusal.{Refusal}
 use Rattle.model.specs.Formats.{itemMaps}
 use Rattle.model.specs.Checks.{Outcome, checkIn, check, checkBytesIn, checkBytes}
-use Rattle.model.specs.Slips.{Lent, writeSlipIn, writeSlip, readSlipIn, readSlip}
+use Rattle.model.specs.Lending.{Lent}
+use Rattle.model.specs.Slips.{writeSlipIn, writeSlip, readSlipIn, readSlip}
+use Rattle.model.specs.Starts.{writeStart, writeStartBytes, readStartInto, readStartIntoBytes}
 use Rattle.model.specs.Listings.{Listing, listingIn, listing, join}
-use Rattle.model.proofs.Samples.{neighbour, noItems, lateDelivery, deliveryFirst, alone, selfCopy, writeItem, popItem, copyThenStore, storeItem, assumeOf, storeTo, storeOf, valueItem, sums, twoTransfers, overtaking, barsThenStore, longStore, longAssume, barAlone, barRecord, farCopy, farCommands, farRecord, neighbours, twoAsked, thirdAsked, popAny, popFor, word, over, pastRange, assumeFrom, intoRegister, storeBoth, transferOf, accessItem, bareItem}
+use Rattle.model.proofs.Samples.{neighbour, noItems, lateAfter, lateDelivery, deliveryFirst, alone, selfCopy, writeItem, popItem, copyThenStore, storeItem, assumeOf, storeTo, storeOf, valueItem, sums, twoTransfers, overtaking, barsThenStore, longStore, longAssume, barAlone, barRecord, farCopy, farCommands, farRecord, neighbours, twoAsked, thirdAsked, popAny, popFor, word, over, pastRange, assumeFrom, intoRegister, storeBoth, transferOf, accessItem, bareItem, readings, noReadings, gaugeStart}
 
 -- What is asked: the whole check with what both lists hold, the same on bytes, a listing or a slip with what the memory holds, a slip read with N and
--- what the counts hold.
+-- what the counts hold; a start written from a cell list, and read into one, and both with lists of bytes.
 pub data Question : Type 0 where
-  checks : (program recorded order cells : List ℕ) → Question
-  enters : (program recorded order cells : List ℕ) → Question
-  lists : (program recorded memory : List ℕ) → Question
-  writes : (program recorded memory : List ℕ) → Question
+  checks : (program start recorded order cells : List ℕ) → Question
+  enters : (program start recorded order cells : List ℕ) → Question
+  lists : (program start recorded memory : List ℕ) → Question
+  writes : (program start recorded memory : List ℕ) → Question
   reads : (ranks : ℕ) (slip counts : List ℕ) → Question
+  begins : (program cells memory : List ℕ) → Question
+  beginsBytes : (program cells memory : List ℕ) → Question
+  recalls : (program start cells : List ℕ) → Question
+  recallsBytes : (program start cells : List ℕ) → Question
 
 pub data Reply : Type 0 where
   checked : Outcome → Reply
@@ -32,12 +38,17 @@ pub data Reply : Type 0 where
 
 -- What the definitions say.
 pub reply : Question → Reply
-unfolding itemMaps checkIn checkBytesIn listingIn writeSlipIn readSlipIn
-reply (checks program recorded order cells) = checked (check program recorded order cells)
-reply (enters program recorded order cells) = checked (checkBytes program recorded order cells)
-reply (lists program recorded memory) = printed (listing program recorded memory)
-reply (writes program recorded memory) = lent (writeSlip program recorded memory)
+unfolding
+    itemMaps checkIn checkBytesIn listingIn writeSlipIn readSlipIn writeStart writeStartBytes readStartInto readStartIntoBytes
+reply (checks program start recorded order cells) = checked (check program start recorded order cells)
+reply (enters program start recorded order cells) = checked (checkBytes program start recorded order cells)
+reply (lists program start recorded memory) = printed (listing program start recorded memory)
+reply (writes program start recorded memory) = lent (writeSlip program start recorded memory)
 reply (reads ranks slip counts) = lent (readSlip ranks slip counts)
+reply (begins program cells memory) = lent (writeStart program cells memory)
+reply (beginsBytes program cells memory) = lent (writeStartBytes program cells memory)
+reply (recalls program start cells) = lent (readStartInto program start cells)
+reply (recallsBytes program start cells) = lent (readStartIntoBytes program start cells)
 
 pub record Row : Type 0 where
   pub question : Question
@@ -50,73 +61,93 @@ nines n = replicate n 9
 refusal : (number place : ℕ) → Refusal
 refusal number place = record { number = number; place = place }
 
--- An order of these groups with these last cells, each list longer by one entry, which stays.
-orderRow : (program recorded groups cells : List ℕ) → Row
+-- An order of these groups with these last cells, each list longer by one entry, which stays. Rows whose name does not say `From` have no start bytes.
+orderFrom : (program start recorded groups cells : List ℕ) → Row
 unfolding nines
-orderRow program recorded groups cells =
+orderFrom program start recorded groups cells =
     record {
-      question = checks program recorded (nines (length groups + 1)) (nines (length cells + 1));
+      question = checks program start recorded (nines (length groups + 1)) (nines (length cells + 1));
       expected =
           checked
           (record { answer = Order (length groups); order = groups ++ 9 ∷ []; cells = cells ++ 9 ∷ [] });
     }
 
+orderRow : (program recorded groups cells : List ℕ) → Row
+unfolding orderFrom
+orderRow program = orderFrom program []
+
 -- A ring of some of so many groups; the order list is as long as the group count, and what the ring leaves of it stays.
-ringRow : (program recorded : List ℕ) → (groups : ℕ) → (ring cells : List ℕ) → Row
+ringFrom : (program start recorded : List ℕ) → (groups : ℕ) → (ring cells : List ℕ) → Row
 unfolding nines
-ringRow program recorded groups ring cells =
+ringFrom program start recorded groups ring cells =
     record {
-      question = checks program recorded (nines groups) (nines (length cells));
+      question = checks program start recorded (nines groups) (nines (length cells));
       expected =
           checked
           (record { answer = Ring (length ring); order = ring ++ nines (groups - length ring); cells = cells });
     }
+
+ringRow : (program recorded : List ℕ) → (groups : ℕ) → (ring cells : List ℕ) → Row
+unfolding ringFrom
+ringRow program = ringFrom program []
 
 -- The recorder's entry on lists of so many bytes.
 entryRow : (program recorded : List ℕ) → (orderLength cellsLength : ℕ) → Answer → (order cells : List ℕ) → Row
 unfolding nines
 entryRow program recorded orderLength cellsLength answer order cells =
     record {
-      question = enters program recorded (nines orderLength) (nines cellsLength);
+      question = enters program [] recorded (nines orderLength) (nines cellsLength);
       expected = checked (record { answer = answer; order = order; cells = cells });
     }
 
 -- A refusal with lists of these lengths, which hold what they held.
-refusedWith : (orderLength cellsLength : ℕ) → (program recorded : List ℕ) → (number place : ℕ) → Row
+refusedWithFrom : (orderLength cellsLength : ℕ) → (program start recorded : List ℕ) → (number place : ℕ) → Row
 unfolding nines refusal
-refusedWith orderLength cellsLength program recorded number place =
+refusedWithFrom orderLength cellsLength program start recorded number place =
     record {
-      question = checks program recorded (nines orderLength) (nines cellsLength);
+      question = checks program start recorded (nines orderLength) (nines cellsLength);
       expected =
           checked
           (record { answer = Refused (refusal number place); order = nines orderLength; cells = nines cellsLength });
     }
 
+refusedWith : (orderLength cellsLength : ℕ) → (program recorded : List ℕ) → (number place : ℕ) → Row
+unfolding refusedWithFrom
+refusedWith orderLength cellsLength program = refusedWithFrom orderLength cellsLength program []
+
+refusedFrom : (program start recorded : List ℕ) → (number place : ℕ) → Row
+unfolding refusedWithFrom
+refusedFrom = refusedWithFrom 8 64
+
 refusedRow : (program recorded : List ℕ) → (number place : ℕ) → Row
-unfolding refusedWith
-refusedRow = refusedWith 8 64
+unfolding refusedFrom
+refusedRow program = refusedFrom program []
 
 -- A listing of these bytes, in memory longer by one byte, which stays.
-listingRow : (program recorded : List ℕ) → Answer → (text : List ℕ) → Row
+listingFrom : (program start recorded : List ℕ) → Answer → (text : List ℕ) → Row
 unfolding nines
-listingRow program recorded answer text =
+listingFrom program start recorded answer text =
     record {
-      question = lists program recorded (nines (length text + 1));
+      question = lists program start recorded (nines (length text + 1));
       expected =
           printed (record { result = record { answer = answer; length = length text }; memory = text ++ 9 ∷ [] });
     }
+
+listingRow : (program recorded : List ℕ) → Answer → (text : List ℕ) → Row
+unfolding listingFrom
+listingRow program = listingFrom program []
 
 -- A listing that does not fit.
 noListingRow : (program recorded : List ℕ) → (memory needed : ℕ) → Row
 unfolding nines refusal
 noListingRow program recorded memory needed =
     record {
-      question = lists program recorded (nines memory);
+      question = lists program [] recorded (nines memory);
       expected =
           printed (record { result = record { answer = Refused (refusal 15 needed); length = 0 }; memory = nines memory });
     }
 
--- A slip written, or counts read: entries that fill the memory, longer by one.
+-- A slip or a start written, counts or cells read: entries that fill the memory, longer by one.
 filled : Question → (entries : List ℕ) → Row
 filled question entries =
     record { question = question; expected = lent (record { answer = Entries (length entries); memory = entries ++ 9 ∷ [] }) }
@@ -283,10 +314,10 @@ verdictRows =
     noListingRow neighbour noItems 7 8 ∷
     noListingRow neighbour lateDelivery 101 102 ∷
     -- the slip: ranks 1 and 2 have 4 and 3 command items; a run without command items has an empty map; refused input; 15
-    filled (writes neighbour lateDelivery (nines 6)) (3 ∷ 0 ∷ 4 ∷ 0 ∷ 3 ∷ []) ∷
-    filled (writes neighbour noItems (nines 2)) (0 ∷ []) ∷
-    notFilled (writes neighbour (0 ∷ []) (nines 0)) 0 4 1 ∷
-    notFilled (writes neighbour lateDelivery (nines 4)) 4 15 5 ∷
+    filled (writes neighbour [] lateDelivery (nines 6)) (3 ∷ 0 ∷ 4 ∷ 0 ∷ 3 ∷ []) ∷
+    filled (writes neighbour [] noItems (nines 2)) (0 ∷ []) ∷
+    notFilled (writes neighbour [] (0 ∷ []) (nines 0)) 0 4 1 ∷
+    notFilled (writes neighbour [] lateDelivery (nines 4)) 4 15 5 ∷
     -- "queue order drawn as an arrow": the ring would leave out the store
     ringRow twoTransfers overtaking 3 (0 ∷ 1 ∷ 2 ∷ []) (0 ∷ 0 ∷ 1 ∷ 0 ∷ []) ∷ []
 
@@ -340,12 +371,12 @@ rankRows =
     refusedWith 2 15 (farCopy 16) (farRecord 16 9) 15 16 ∷
     listingRow (farCopy 16) (farRecord 16 9) (Order 2) farListing ∷
     -- "the rank map takes two bytes if N is above 8 and one otherwise", the high byte first
-    filled (writes (barAlone 8) (barRecord 8) (nines 18)) (255 ∷ 0 ∷ 1 ∷ 0 ∷ 1 ∷ 0 ∷ 1 ∷ 0 ∷ 1 ∷ 0 ∷ 1 ∷ 0 ∷ 1 ∷ 0 ∷ 1 ∷ 0 ∷ 1 ∷ []) ∷
-    filled (writes (barAlone 9) (barRecord 9) (nines 21))
+    filled (writes (barAlone 8) [] (barRecord 8) (nines 18)) (255 ∷ 0 ∷ 1 ∷ 0 ∷ 1 ∷ 0 ∷ 1 ∷ 0 ∷ 1 ∷ 0 ∷ 1 ∷ 0 ∷ 1 ∷ 0 ∷ 1 ∷ 0 ∷ 1 ∷ []) ∷
+    filled (writes (barAlone 9) [] (barRecord 9) (nines 21))
     (1 ∷ 255 ∷ 0 ∷ 1 ∷ 0 ∷ 1 ∷ 0 ∷ 1 ∷ 0 ∷ 1 ∷ 0 ∷ 1 ∷ 0 ∷ 1 ∷ 0 ∷ 1 ∷ 0 ∷ 1 ∷ 0 ∷ 1 ∷ []) ∷
-    filled (writes (farCopy 16) (farRecord 16 9) (nines 5)) (128 ∷ 0 ∷ 0 ∷ 2 ∷ []) ∷
-    filled (writes (barAlone 9) (0 ∷ 0 ∷ []) (nines 3)) (0 ∷ 0 ∷ []) ∷
-    notFilled (writes (barAlone 9) (0 ∷ 0 ∷ []) (nines 1)) 1 15 2 ∷
+    filled (writes (farCopy 16) [] (farRecord 16 9) (nines 5)) (128 ∷ 0 ∷ 0 ∷ 2 ∷ []) ∷
+    filled (writes (barAlone 9) [] (0 ∷ 0 ∷ []) (nines 3)) (0 ∷ 0 ∷ []) ∷
+    notFilled (writes (barAlone 9) [] (0 ∷ 0 ∷ []) (nines 1)) 1 15 2 ∷
     filled (reads 9 (1 ∷ 1 ∷ 0 ∷ 3 ∷ 4 ∷ 0 ∷ []) (nines 10)) (3 ∷ 0 ∷ 0 ∷ 0 ∷ 0 ∷ 0 ∷ 0 ∷ 0 ∷ 1_024 ∷ []) ∷
     filled (reads 16 (128 ∷ 0 ∷ 0 ∷ 2 ∷ []) (nines 17)) (replicate 15 0 ++ 2 ∷ []) ∷
     filled (reads 8 (128 ∷ 0 ∷ 2 ∷ []) (nines 9)) (0 ∷ 0 ∷ 0 ∷ 0 ∷ 0 ∷ 0 ∷ 0 ∷ 2 ∷ []) ∷
@@ -443,6 +474,82 @@ sumRows =
     -- a transition that is not taken has no values
     orderRow (assumeFrom 0 pastRange) noItems [] (0 ∷ []) ∷ []
 
+-- `order 0` and `cell 1 1 2314`.
+gaugeListing : List ℕ
+unfolding order0
+gaugeListing = order0 ++ 99 ∷ 101 ∷ 108 ∷ 108 ∷ 32 ∷ 49 ∷ 32 ∷ 49 ∷ 32 ∷ 50 ∷ 51 ∷ 49 ∷ 52 ∷ 10 ∷ []
+
+-- Document 02, #103: what a start puts into the cells, each refusal at its place, and both writer and reader.
+pub startRows : List Row
+unfolding
+    join neighbour noItems lateAfter lateDelivery deliveryFirst alone selfCopy writeItem popItem copyThenStore storeItem storeTo barAlone barRecord
+    readings noReadings gaugeStart orderFrom ringFrom refusedFrom refusedWithFrom listingFrom gaugeListing filled notFilled nines
+startRows =
+    -- a start and no items: `order 0` and the readings; "No bytes at all .. mean that all is 0", and so do the maps without a bit
+    orderFrom neighbour gaugeStart noItems [] (0 ∷ 2_314 ∷ 0 ∷ 0 ∷ []) ∷
+    listingFrom neighbour gaugeStart noItems (Order 0) gaugeListing ∷
+    orderFrom neighbour [] noItems [] (replicate 4 0) ∷
+    orderFrom neighbour (noReadings ++ noReadings) noItems [] (replicate 4 0) ∷
+    -- "bit a for cell a": the lowest bit of the eighth byte, the highest of the first; "cells rising", the high byte first
+    orderFrom neighbour (readings 0 3 (0 ∷ 5 ∷ 6 ∷ 0 ∷ []) ++ readings 0 1 (0 ∷ 7 ∷ [])) noItems [] (5 ∷ 1_536 ∷ 7 ∷ 0 ∷ []) ∷
+    orderFrom (storeTo 0) (readings 128 1 (0 ∷ 9 ∷ 255 ∷ 255 ∷ [])) noItems [] (9 ∷ (replicate 62 0 ++ 65_535 ∷ [])) ∷
+    -- sixteen ranks
+    orderFrom (barAlone 16) (join (replicate 15 noReadings) ++ readings 0 1 (1 ∷ 0 ∷ [])) (barRecord 16) (0 ∷ []) (replicate 15 0 ++ 256 ∷ []) ∷
+    -- "A plain run begins from those readings too": the value that b's load finds is the reading, and c's is the delivery
+    refusedFrom neighbour gaugeStart lateDelivery 11 8 ∷
+    ringFrom neighbour (readings 0 2 (0 ∷ 7 ∷ []) ++ noReadings) (lateAfter 7) 6 (3 ∷ 4 ∷ 5 ∷ []) (1 ∷ 2 ∷ 2 ∷ 1 ∷ []) ∷
+    orderFrom neighbour gaugeStart deliveryFirst (0 ∷ 1 ∷ 2 ∷ 3 ∷ 4 ∷ 5 ∷ []) (1 ∷ 2 ∷ 2 ∷ 1 ∷ []) ∷
+    -- a reading that is copied, and one that is stored over
+    orderFrom selfCopy (readings 0 1 (0 ∷ 7 ∷ [])) (0 ∷ 3 ∷ (writeItem ++ (popItem 7 0 ++ popItem 8 0))) (0 ∷ []) (7 ∷ []) ∷
+    orderFrom copyThenStore (readings 0 1 (0 ∷ 3 ∷ [])) (0 ∷ 4 ∷ (writeItem ++ (popItem 7 0 ++ (popItem 8 1 ++ storeItem 1 0)))) (0 ∷ 1 ∷ [])
+    (5 ∷ 3 ∷ []) ∷
+    -- a missing byte, in a map, behind it and in a value; of a rank's map; nothing lies between no bytes and all maps
+    refusedFrom neighbour (0 ∷ []) noItems 19 1 ∷
+    refusedFrom neighbour (readings 0 2 []) noItems 19 8 ∷
+    refusedFrom neighbour (readings 0 2 (9 ∷ [])) noItems 19 9 ∷
+    refusedFrom neighbour (readings 0 2 (9 ∷ 10 ∷ [])) noItems 19 10 ∷
+    refusedFrom neighbour (readings 0 2 (9 ∷ 10 ∷ 0 ∷ [])) noItems 19 11 ∷
+    refusedFrom neighbour noReadings noItems 19 8 ∷
+    -- a left-over byte
+    refusedFrom neighbour (gaugeStart ++ 0 ∷ []) noItems 19 18 ∷
+    refusedFrom neighbour (noReadings ++ (noReadings ++ noReadings)) noItems 19 16 ∷
+    -- "a bit for a cell A or above", once all eight bytes are there; in the second map
+    refusedFrom neighbour (readings 0 4 []) noItems 19 0 ∷
+    refusedFrom neighbour (readings 128 0 (0 ∷ 1 ∷ [])) noItems 19 0 ∷
+    refusedFrom neighbour (128 ∷ []) noItems 19 1 ∷
+    refusedFrom neighbour (readings 0 2 (9 ∷ 10 ∷ []) ++ readings 0 4 (0 ∷ 1 ∷ [])) noItems 19 10 ∷
+    -- "a listed 0", which comes before what is missing behind it
+    refusedFrom neighbour (readings 0 1 (0 ∷ 0 ∷ [])) noItems 19 8 ∷
+    refusedFrom neighbour (readings 0 3 (0 ∷ 1 ∷ 0 ∷ 0 ∷ [])) noItems 19 10 ∷
+    -- "judged after the program and before the record", and so before 14 and 15
+    refusedFrom [] (0 ∷ []) [] 1 0 ∷
+    refusedFrom neighbour (0 ∷ []) [] 19 1 ∷
+    refusedFrom neighbour gaugeStart [] 4 0 ∷
+    refusedWithFrom 0 0 neighbour (0 ∷ []) lateDelivery 19 1 ∷
+    -- the writer: what the check fills, and more of the list; "the writer always writes the maps"; the program, the list, then the memory
+    filled (begins neighbour (0 ∷ 2_314 ∷ 0 ∷ 0 ∷ 7 ∷ []) (nines 19)) gaugeStart ∷
+    filled (begins neighbour (replicate 4 0) (nines 17)) (noReadings ++ noReadings) ∷
+    filled (begins (storeTo 0) (9 ∷ (replicate 62 0 ++ 65_535 ∷ [])) (nines 13)) (readings 128 1 (0 ∷ 9 ∷ 255 ∷ 255 ∷ [])) ∷
+    filled (beginsBytes neighbour (0 ∷ 0 ∷ 9 ∷ 10 ∷ 0 ∷ 0 ∷ 0 ∷ 0 ∷ 7 ∷ []) (nines 19)) gaugeStart ∷
+    notFilled (begins [] [] (nines 0)) 0 1 0 ∷
+    notFilled (begins neighbour (replicate 3 0) (nines 0)) 0 15 4 ∷
+    notFilled (beginsBytes neighbour (replicate 7 0) (nines 0)) 0 15 4 ∷
+    notFilled (begins neighbour (0 ∷ 2_314 ∷ 0 ∷ 0 ∷ []) (nines 17)) 17 15 18 ∷
+    -- the reader: the program, the start, then the list
+    filled (recalls neighbour gaugeStart (nines 5)) (0 ∷ 2_314 ∷ 0 ∷ 0 ∷ []) ∷
+    filled (recalls neighbour [] (nines 5)) (replicate 4 0) ∷
+    notFilled (recalls [] (0 ∷ []) (nines 0)) 0 1 0 ∷
+    notFilled (recalls neighbour (0 ∷ []) (nines 0)) 0 19 1 ∷
+    notFilled (recalls neighbour gaugeStart (nines 3)) 3 15 4 ∷
+    notFilled (recallsBytes neighbour gaugeStart (nines 7)) 7 15 4 ∷
+    record {
+      question = recallsBytes neighbour gaugeStart (nines 9);
+      expected = lent (record { answer = Entries 4; memory = 0 ∷ 0 ∷ 9 ∷ 10 ∷ 0 ∷ 0 ∷ 0 ∷ 0 ∷ 9 ∷ [] });
+    } ∷
+    -- the slip is that of the run, whatever it begins from
+    filled (writes neighbour gaugeStart deliveryFirst (nines 6)) (3 ∷ 0 ∷ 4 ∷ 0 ∷ 3 ∷ []) ∷
+    notFilled (writes neighbour (0 ∷ []) deliveryFirst (nines 0)) 0 19 1 ∷ []
+
 -- The definitions give the answer of each of these rows.
 abbrev pub Answered : List Row → Type 0
 Answered rows = map (λ row. reply (row .question)) rows ≡ map (λ row. row .expected) rows
@@ -476,16 +583,21 @@ pub sum-rows : Answered sumRows
 unfolding reply sumRows
 sum-rows = refl
 
+pub start-rows : Answered startRows
+unfolding reply startRows
+start-rows = refl
+
 -- And the one of the whole table.
 answered-both : (rows more : List Row) → Answered rows → Answered more → Answered (rows ++ more)
 answered-both rows more h g =
     map-append (λ (row : Row). reply (row .question)) rows more ∙ ap₂ _++_ h g ∙ sym (map-append (λ (row : Row). row .expected) rows more)
 
-pub every-row : Answered (readingRows ++ (replayRows ++ (verdictRows ++ (transitionRows ++ (rankRows ++ (neighbourRows ++ sumRows))))))
+pub every-row : Answered (readingRows ++ (replayRows ++ (verdictRows ++ (transitionRows ++ (rankRows ++ (neighbourRows ++ (sumRows ++ startRows)))))))
 every-row =
-    answered-both readingRows (replayRows ++ (verdictRows ++ (transitionRows ++ (rankRows ++ (neighbourRows ++ sumRows))))) reading-rows
-    (answered-both replayRows (verdictRows ++ (transitionRows ++ (rankRows ++ (neighbourRows ++ sumRows)))) replay-rows
-    (answered-both verdictRows (transitionRows ++ (rankRows ++ (neighbourRows ++ sumRows))) verdict-rows
-    (answered-both transitionRows (rankRows ++ (neighbourRows ++ sumRows)) transition-rows
-    (answered-both rankRows (neighbourRows ++ sumRows) rank-rows
-    (answered-both neighbourRows sumRows neighbour-rows sum-rows)))))
+    answered-both readingRows (replayRows ++ (verdictRows ++ (transitionRows ++ (rankRows ++ (neighbourRows ++ (sumRows ++ startRows)))))) reading-rows
+    (answered-both replayRows (verdictRows ++ (transitionRows ++ (rankRows ++ (neighbourRows ++ (sumRows ++ startRows))))) replay-rows
+    (answered-both verdictRows (transitionRows ++ (rankRows ++ (neighbourRows ++ (sumRows ++ startRows)))) verdict-rows
+    (answered-both transitionRows (rankRows ++ (neighbourRows ++ (sumRows ++ startRows))) transition-rows
+    (answered-both rankRows (neighbourRows ++ (sumRows ++ startRows)) rank-rows
+    (answered-both neighbourRows (sumRows ++ startRows) neighbour-rows
+    (answered-both sumRows startRows sum-rows start-rows))))))

@@ -2,7 +2,7 @@
 -- or refuses. "A field is judged as soon as its bytes are read, and a fault is placed at that field's first byte."
 use Prim.Native.Nat.{ℕ, zero, suc, _+_, _*_, _/_, _%_, _<_}
 use mathlib.Core.Bool.{Bool, true, false}
-use mathlib.Core.List.{List, [], _∷_}
+use mathlib.Core.List.{List, [], _∷_, _++_}
 use lib.Dec.{ltb, eqb}
 use lib.ListN.{length, getD}
 use Rattle.model.specs.Limits.{byteValues}
@@ -59,6 +59,18 @@ word early = do
 -- The same, written.
 abbrev pub wordBytes : ℕ → List ℕ
 wordBytes n = n / byteValues ∷ n % byteValues ∷ []
+
+-- A big-endian number of so many bytes more, behind those that made `high`; and the same, written.
+unfoldable pub bigEndian : (early size high : ℕ) → Reader ℕ
+unfolding byte
+bigEndian early zero high = pure high
+bigEndian early (suc size) high = do
+  low ← byte early
+  bigEndian early size (high * byteValues + low)
+
+unfoldable pub bigEndianBytes : (size n : ℕ) → List ℕ
+bigEndianBytes zero n = []
+bigEndianBytes (suc size) n = bigEndianBytes size (n / byteValues) ++ n % byteValues ∷ []
 
 -- A field that has to pass a test; its fault is placed at its first byte.
 unfoldable pub judged : (ℕ → Bool) → (number : ℕ) → Reader ℕ → Reader ℕ

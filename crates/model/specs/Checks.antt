@@ -1,5 +1,5 @@
 -- The answer (document 01, from "An answer is an order, a ring or a refusal"): the whole check on byte lists and lent lists.
-use Prim.Native.Nat.{ℕ, _*_, _/_}
+use Prim.Native.Nat.{ℕ, _+_, _*_, _/_}
 use mathlib.Core.Bool.{Bool}
 use mathlib.Core.List.{List, [], _∷_, _++_, map}
 use lib.Dec.{leb, eqb}
@@ -7,32 +7,37 @@ use lib.ListN.{length, drop}
 use Rattle.model.specs.declared.Answer.{Answer}
 use Rattle.model.specs.declared.Answer.the-variants.{Order, Ring, Refused}
 use Rattle.model.specs.declared.Item.{Item}
+use Rattle.model.specs.Limits.{byteValues}
 use Rattle.model.specs.Refusals.{Result, ok, refused, require, orderTooShort, memoryTooShort, _>>=_}
 use Rattle.model.specs.Choice.{select, numbersFrom}
 use Rattle.model.specs.Bytes.{wordBytes}
 use Rattle.model.specs.Formats.{Format, today}
 use Rattle.model.specs.Programs.{Program, readProgramIn}
 use Rattle.model.specs.Records.{readRecordIn}
-use Rattle.model.specs.Machine.{Start, zeroStart}
+use Rattle.model.specs.Machine.{Start}
+use Rattle.model.specs.StartBytes.{readStart}
 use Rattle.model.specs.Replay.{Event, Replayed, replay}
 use Rattle.model.specs.HappensBefore.{edgesOf}
 use Rattle.model.specs.Orders.{Verdict, ordered, cyclic, verdict}
 
--- An accepted record of a readable program, replayed.
+-- An accepted record of a readable program, replayed from the readings at the start.
 pub record Accepted : Type 0 where
   pub program : Program
+  pub readings : Start
   pub run : Replayed
 
--- "The program is read first, then the whole record, front to back"; then the items in turn.
-unfoldable pub acceptIn : Format → Start → (program recorded : List ℕ) → Result Accepted
-unfolding readProgramIn readRecordIn replay
-acceptIn format start program recorded = do
+-- "The program is read first, then the whole record, front to back"; the start is "judged after the program and before the record". Then the items
+-- in turn.
+unfoldable pub acceptIn : Format → (program start recorded : List ℕ) → Result Accepted
+unfolding readProgramIn readStart readRecordIn replay
+acceptIn format program start recorded = do
   P ← readProgramIn format program
+  readings ← readStart (P .header) start
   items ← readRecordIn format (P .header) recorded
-  run ← replay P start items
-  ok (record { program = P; run = run })
+  run ← replay P readings items
+  ok (record { program = P; readings = readings; run = run })
 
-abbrev pub accept : Start → (program recorded : List ℕ) → Result Accepted
+abbrev pub accept : (program start recorded : List ℕ) → Result Accepted
 accept = acceptIn today
 
 -- The verdict on an accepted record: its arrows, and what they come to.
@@ -97,17 +102,17 @@ pub record Verdicts : Type 0 where
   pub verdict : Verdict
   pub cells : List ℕ
 
-unfoldable pub checkResultIn : Format → Start → (program recorded : List ℕ) → (orderLength cellsLength : ℕ) → Result Verdicts
+unfoldable pub checkResultIn : Format → (program start recorded : List ℕ) → (orderLength cellsLength : ℕ) → Result Verdicts
 unfolding acceptIn verdictOn lastCells
-checkResultIn format start program recorded orderLength cellsLength = do
-  a ← acceptIn format start program recorded
+checkResultIn format program start recorded orderLength cellsLength = do
+  a ← acceptIn format program start recorded
   let groups : ℕ = a .run .last .opened
   let count : ℕ = a .program .header .ranks * a .program .header .cells
   _ ← require (leb groups orderLength) orderTooShort groups
   _ ← require (leb count cellsLength) memoryTooShort count
   ok (record { verdict = verdictOn (a .run); cells = lastCells a })
 
-abbrev pub checkResult : Start → (program recorded : List ℕ) → (orderLength cellsLength : ℕ) → Result Verdicts
+abbrev pub checkResult : (program start recorded : List ℕ) → (orderLength cellsLength : ℕ) → Result Verdicts
 checkResult = checkResultIn today
 
 -- "On a refusal nothing lent changes."
@@ -117,19 +122,25 @@ outcome order cells (refused r) = record { answer = Refused r; order = order; ce
 outcome order cells (ok v) =
     record { answer = answered (v .verdict); order = fill (listed (v .verdict)) order; cells = fill (v .cells) cells }
 
--- The whole check, from document 01's start; `order` and `cells` are what the lent lists hold.
-unfoldable pub checkIn : Format → (program recorded order cells : List ℕ) → Outcome
-unfolding zeroStart checkResultIn outcome
-checkIn format program recorded order cells =
-    outcome order cells (checkResultIn format zeroStart program recorded (length order) (length cells))
+-- The whole check; `order` and `cells` are what the lent lists hold.
+unfoldable pub checkIn : Format → (program start recorded order cells : List ℕ) → Outcome
+unfolding checkResultIn outcome
+checkIn format program start recorded order cells =
+    outcome order cells (checkResultIn format program start recorded (length order) (length cells))
 
-abbrev pub check : (program recorded order cells : List ℕ) → Outcome
+abbrev pub check : (program start recorded order cells : List ℕ) → Outcome
 check = checkIn today
 
 -- The recorder's entry: "both lists there are bytes, two an entry, and an odd last byte is never used."
 unfoldable pub entryBytes : List ℕ → List ℕ
 entryBytes [] = []
 entryBytes (n ∷ entries) = wordBytes n ++ entryBytes entries
+
+-- The same, read.
+unfoldable pub twoByTwo : List ℕ → List ℕ
+twoByTwo [] = []
+twoByTwo (odd ∷ []) = []
+twoByTwo (high ∷ low ∷ rest) = (high * byteValues + low) ∷ twoByTwo rest
 
 unfoldable pub outcomeBytes : (order cells : List ℕ) → Result Verdicts → Outcome
 unfolding fill entryBytes
@@ -141,10 +152,10 @@ outcomeBytes order cells (ok v) =
       cells = fill (entryBytes (v .cells)) cells;
     }
 
-unfoldable pub checkBytesIn : Format → (program recorded order cells : List ℕ) → Outcome
-unfolding zeroStart checkResultIn outcomeBytes
-checkBytesIn format program recorded order cells =
-    outcomeBytes order cells (checkResultIn format zeroStart program recorded (length order / 2) (length cells / 2))
+unfoldable pub checkBytesIn : Format → (program start recorded order cells : List ℕ) → Outcome
+unfolding checkResultIn outcomeBytes
+checkBytesIn format program start recorded order cells =
+    outcomeBytes order cells (checkResultIn format program start recorded (length order / 2) (length cells / 2))
 
-abbrev pub checkBytes : (program recorded order cells : List ℕ) → Outcome
+abbrev pub checkBytes : (program start recorded order cells : List ℕ) → Outcome
 checkBytes = checkBytesIn today

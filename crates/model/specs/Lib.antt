@@ -4,12 +4,14 @@ pub mod Refusals
 pub mod Choice
 pub mod Bytes
 pub mod ItemKinds
+pub mod Marked
 pub mod Formats
 pub mod Expressions
 pub mod Programs
 pub mod ItemForms
 pub mod Records
 pub mod Machine
+pub mod StartBytes
 pub mod Rules
 pub mod Replay
 pub mod HappensBefore
@@ -17,5 +19,7 @@ pub mod Rings
 pub mod Orders
 pub mod Traces
 pub mod Checks
+pub mod Lending
 pub mod Slips
+pub mod Starts
 pub mod Listings

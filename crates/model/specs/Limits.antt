@@ -57,6 +57,13 @@ maxEdges = 3_072
 abbrev pub byteValues : ℕ
 byteValues = 256
 
--- "Values are unsigned 16-bit numbers": there are so many of them.
+-- "Values are unsigned 16-bit numbers": there are so many of them, and this is the last.
 abbrev pub wordValues : ℕ
 wordValues = 65_536
+
+abbrev pub maxValue : ℕ
+maxValue = 65_535
+
+-- Document 02, #103: "for each rank in turn an eight-byte big-endian map".
+abbrev pub mapSize : ℕ
+mapSize = 8

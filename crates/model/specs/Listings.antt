@@ -13,7 +13,6 @@ use Rattle.model.specs.Refusals.{Result, ok, refused, memoryTooShort}
 use Rattle.model.specs.Choice.{when}
 use Rattle.model.specs.ItemKinds.{isBar}
 use Rattle.model.specs.Formats.{Format, today}
-use Rattle.model.specs.Machine.{zeroStart}
 use Rattle.model.specs.Replay.{Event}
 use Rattle.model.specs.Orders.{Verdict, ordered, cyclic}
 use Rattle.model.specs.Checks.{Accepted, acceptIn, verdictOn, listed, answered, rankByRank, fill}
@@ -131,10 +130,10 @@ printedOf memory (ok a) =
     let v : Verdict = verdictOn (a .run) in
     printed memory (answered v) (listingOf a v)
 
--- The whole listing, from document 01's start; `memory` is what the lent bytes hold.
-unfoldable pub listingIn : Format → (program recorded memory : List ℕ) → Listing
-unfolding zeroStart acceptIn printedOf
-listingIn format program recorded memory = printedOf memory (acceptIn format zeroStart program recorded)
+-- The whole listing; `memory` is what the lent bytes hold.
+unfoldable pub listingIn : Format → (program start recorded memory : List ℕ) → Listing
+unfolding acceptIn printedOf
+listingIn format program start recorded memory = printedOf memory (acceptIn format program start recorded)
 
-abbrev pub listing : (program recorded memory : List ℕ) → Listing
+abbrev pub listing : (program start recorded memory : List ℕ) → Listing
 listing = listingIn today

@@ -72,6 +72,10 @@ slipForm = 16
 abbrev pub noValue : ℕ
 noValue = 18
 
+-- Document 02, #103: "a missing or left-over byte, a bit for a cell A or above, or a listed 0".
+abbrev pub startForm : ℕ
+startForm = 19
+
 -- A value, or why there is none.
 pub data Result (A : Type 0) : Type 0 where
   ok : A → Result A

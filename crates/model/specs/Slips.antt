@@ -1,37 +1,16 @@
 -- The slip (document 01, "Slip and listing"): its writer and its reader.
-use Prim.Native.Nat.{ℕ, _+_, _-_, _^_}
+use Prim.Native.Nat.{ℕ, _^_}
 use mathlib.Core.List.{List, [], _∷_, _++_}
-use lib.Dec.{ltb, leb}
-use lib.ListN.{length}
-use Rattle.model.specs.declared.Filled.{Filled}
-use Rattle.model.specs.declared.Filled.the-variants.{Entries, Refused}
+use lib.Dec.{ltb}
 use Rattle.model.specs.Limits.{byteRanks, maxItems}
 use Rattle.model.specs.Refusals as Refusals
-use Rattle.model.specs.Refusals.{Result, ok, refused, require, memoryTooShort, slipForm}
-use Rattle.model.specs.Choice.{when, between, bit, numbersFrom}
-use Rattle.model.specs.Bytes.{Reader, _>>=_, pure, byte, word, wordBytes, judged, optional, whole}
+use Rattle.model.specs.Refusals.{ok, require, slipForm}
+use Rattle.model.specs.Choice.{when, between, numbersFrom}
+use Rattle.model.specs.Bytes.{Reader, _>>=_, byte, word, wordBytes, judged, whole}
+use Rattle.model.specs.Marked.{markedMap, markedBytes, readMarked}
 use Rattle.model.specs.Formats.{Format, today}
-use Rattle.model.specs.Machine.{zeroStart}
-use Rattle.model.specs.Checks.{Accepted, acceptIn, fill}
-
--- What was filled or refused, and what the lent memory holds at the end.
-pub record Lent : Type 0 where
-  pub answer : Filled
-  pub memory : List ℕ
-
--- The entries fill the memory, unless it is too short: 15 with the length needed. On a refusal it holds what it held.
-unfoldable pub lend : List ℕ → Result (List ℕ) → Lent
-unfolding fill
-lend memory (refused r) = record { answer = Refused r; memory = memory }
-lend memory (ok entries) =
-    when (leb (length entries) (length memory))
-    (λ _. record { answer = Entries (length entries); memory = fill entries memory })
-    (λ _. record { answer = Refused (record { number = memoryTooShort; place = length entries }); memory = memory })
-
--- "a .. map of ranks that have a command item (bit r − 1 for rank r)"
-unfoldable pub rankMap : (taken : ℕ → ℕ) → List ℕ → ℕ
-rankMap taken [] = 0
-rankMap taken (r ∷ ranks) = when (ltb 0 (taken r)) (λ _. 2 ^ (r - 1)) (λ _. 0) + rankMap taken ranks
+use Rattle.model.specs.Checks.{Accepted, acceptIn}
+use Rattle.model.specs.Lending.{Lent, lend}
 
 -- "the rank map takes two bytes if N is above 8 and one otherwise" (document 02, #105).
 unfoldable pub mapBytes : (ranks map : ℕ) → List ℕ
@@ -41,41 +20,29 @@ unfoldable pub mapField : (ranks : ℕ) → Reader ℕ
 unfolding byte word
 mapField ranks = when (ltb byteRanks ranks) (λ _. word slipForm) (λ _. byte slipForm)
 
--- "then for each a two-byte count of those items, ranks rising"
-unfoldable pub countBytes : (taken : ℕ → ℕ) → List ℕ → List ℕ
-countBytes taken [] = []
-countBytes taken (r ∷ ranks) = when (ltb 0 (taken r)) (λ _. wordBytes (taken r)) (λ _. []) ++ countBytes taken ranks
-
+-- "a .. map of ranks that have a command item (bit r − 1 for rank r), then for each a two-byte count of those items, ranks rising"
 unfoldable pub slipOf : Accepted → List ℕ
-unfolding numbersFrom rankMap mapBytes countBytes
+unfolding numbersFrom mapBytes markedMap markedBytes
 slipOf a =
     let ranks : List ℕ = numbersFrom 1 (a .program .header .ranks) in
-    mapBytes (a .program .header .ranks) (rankMap (a .run .last .taken) ranks) ++ countBytes (a .run .last .taken) ranks
+    mapBytes (a .program .header .ranks) (markedMap 1 (a .run .last .taken) ranks) ++ markedBytes (a .run .last .taken) ranks
 
 -- "The slip writer and the listing refuse program and record as the check does, then look at 15 only."
-unfoldable pub writeSlipIn : Format → (program recorded memory : List ℕ) → Lent
-unfolding zeroStart acceptIn slipOf lend
-writeSlipIn format program recorded memory =
-    lend memory (Refusals._>>=_ (acceptIn format zeroStart program recorded) (λ a. ok (slipOf a)))
+unfoldable pub writeSlipIn : Format → (program start recorded memory : List ℕ) → Lent
+unfolding acceptIn slipOf lend
+writeSlipIn format program start recorded memory =
+    lend memory (Refusals._>>=_ (acceptIn format program start recorded) (λ a. ok (slipOf a)))
 
-abbrev pub writeSlip : (program recorded memory : List ℕ) → Lent
+abbrev pub writeSlip : (program start recorded memory : List ℕ) → Lent
 writeSlip = writeSlipIn today
 
--- "a count of 0 or above 1,024, a missing byte or a left-over one is 16 there"; "0 for a rank without a bit".
-unfoldable pub readCounts : (map : ℕ) → (ranks : List ℕ) → Reader (List ℕ)
-unfolding word judged
-readCounts map [] = pure []
-readCounts map (r ∷ ranks) = do
-  count ← optional (bit (r - 1) map) 0 (judged (between 1 maxItems) slipForm (word slipForm))
-  rest ← readCounts map ranks
-  pure (count ∷ rest)
-
--- "a bit for a rank above N is 16 at byte 0"
+-- "a bit for a rank above N is 16 at byte 0; a count of 0 or above 1,024, a missing byte or a left-over one is 16 there"; "0 for a rank without a
+-- bit".
 unfoldable pub slipReader : (ranks : ℕ) → Reader (List ℕ)
-unfolding mapField judged numbersFrom readCounts
+unfolding mapField judged numbersFrom readMarked
 slipReader ranks = do
   map ← judged (λ m. ltb m (2 ^ ranks)) slipForm (mapField ranks)
-  readCounts map (numbersFrom 1 ranks)
+  readMarked 1 maxItems slipForm map (numbersFrom 1 ranks)
 
 -- "A slip reader is given N and fills N counts .. it looks at 16 before 15. N outside 1..8 .. is 16 at byte 0"; document 02, #105: "The reader takes
 -- N 1..16."

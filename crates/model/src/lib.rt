@@ -17,6 +17,9 @@ pub type RankCells = [u16; CELLS];
 
 pub type Cells = [RankCells; RANKS];
 
+// "an eight-byte big-endian map" of a rank's cells, document 02, #103.
+pub const MAP_BYTES: usize = 8;
+
 pub const REGISTERS: usize = 16;
 
 pub type RankRegisters = [u16; REGISTERS];
@@ -62,7 +65,7 @@ pub enum Answer {
     Refused(Refusal),
 }
 
-// What the slip's writer and reader answer: how many entries of the lent memory they filled, or the refusal.
+// What writers and readers of slips and starts answer: how many entries of the lent memory they filled, or the refusal.
 pub enum Filled {
     Entries(usize),
     Refused(Refusal),

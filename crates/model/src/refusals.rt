@@ -32,3 +32,5 @@ pub const MEMORY_TOO_SHORT: u8 = 15;
 pub const SLIP_FORM: u8 = 16;
 
 pub const NO_VALUE: u8 = 18;
+
+pub const START_FORM: u8 = 19;
