@@ -1,4 +1,4 @@
--- The three demands hold of what the check answers, for all program bytes, all record bytes and all lent lists: what the whole project promises of
+-- The three demands hold of what the check answers, for all program, start and record bytes and all lent lists: what the whole project promises of
 -- its definitions. `MeetsDemands` in specs/ is the statement; here it is said of both entries.
 use Prim.Native.Nat.{ℕ}
 use mathlib.Core.Path.{_≡_, refl, subst}
@@ -22,17 +22,17 @@ unfolding outcomeBytes
 bytes-written order cells (ok v) = refl
 bytes-written order cells (refused r) = refl
 
-module _ (program recorded order cells : List ℕ) (are-bytes : AreBytes recorded) where
+module _ (program start recorded order cells : List ℕ) (are-bytes : AreBytes recorded) where
   -- The check with lists of 16-bit numbers.
-  pub check-meets-demands : MeetsDemands numbers program recorded order cells (check program recorded order cells)
+  pub check-meets-demands : MeetsDemands numbers program start recorded order cells (check program start recorded order cells)
   unfolding checkIn capacity
   check-meets-demands =
-      subst (MeetsDemands numbers program recorded order cells) (numbers-written order cells (resultIn numbers program recorded order cells))
-      (outcome-meets numbers program recorded order cells are-bytes)
+      subst (MeetsDemands numbers program start recorded order cells) (numbers-written order cells (resultIn numbers program start recorded order cells))
+      (outcome-meets numbers program start recorded order cells are-bytes)
 
   -- The check with lists of bytes.
-  pub checkBytes-meets-demands : MeetsDemands bytes program recorded order cells (checkBytes program recorded order cells)
+  pub checkBytes-meets-demands : MeetsDemands bytes program start recorded order cells (checkBytes program start recorded order cells)
   unfolding checkBytesIn capacity
   checkBytes-meets-demands =
-      subst (MeetsDemands bytes program recorded order cells) (bytes-written order cells (resultIn bytes program recorded order cells))
-      (outcome-meets bytes program recorded order cells are-bytes)
+      subst (MeetsDemands bytes program start recorded order cells) (bytes-written order cells (resultIn bytes program start recorded order cells))
+      (outcome-meets bytes program start recorded order cells are-bytes)

@@ -7,8 +7,8 @@ use native.Mathlib.Omega.{arith}
 use lib.ListN.{length, drop, length-append, length-drop}
 use lib.Seq.{take-append-seam, drop-append-seam}
 use Rattle.model.specs.Limits.{byteValues}
-use Rattle.model.specs.Checks.{fill, entryBytes}
-use Rattle.demands.specs.Entries.{Form, numbers, bytes, width, twoByTwo, entries, firstEntries}
+use Rattle.model.specs.Checks.{fill, entryBytes, twoByTwo}
+use Rattle.demands.specs.Entries.{Form, numbers, bytes, width, entries, firstEntries}
 use Rattle.demands.specs.Demands.{Untouched}
 
 -- Entries as they stand in a list.

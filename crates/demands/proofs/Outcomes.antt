@@ -12,7 +12,6 @@ use Rattle.model.specs.declared.Answer.the-variants.{Order, Ring, Refused}
 use Rattle.model.specs.declared.Refusal.{Refusal}
 use Rattle.model.specs.Refusals.{Result, ok, refused, orderTooShort, memoryTooShort}
 use Rattle.model.specs.Bytes.{AreBytes}
-use Rattle.model.specs.Machine.{zeroStart}
 use Rattle.model.specs.Rules.{Rank, Cell}
 use Rattle.model.specs.Orders.{Verdict, ordered, cyclic}
 use Rattle.model.specs.Checks.{accept, verdictOn, lastCells, Accepted, fill, Outcome, listed, answered, Verdicts, checkResultIn, checkResult}
@@ -22,14 +21,14 @@ use Rattle.serializability.specs.Claim.{Serializable}
 use Rattle.demands.specs.Entries.{Form, entries, firstEntries}
 use Rattle.demands.specs.Demands.{groupsOf, arrowsOf, cellsOf, Answerable, IsVerdict, countIn, Untouched, RefusedAs, IsRing, IsOrder}
 use Rattle.demands.specs.Demands.{Demand1, Demand2, Demand3, MeetsDemands}
-use Rattle.demands.proofs.AnyStart.{accepted-iff-run, arrows-are-happens-before, order-forward, ring-closed, accepted-serializable}
+use Rattle.demands.proofs.Bytes.{accepted-iff-run, arrows-are-happens-before, order-forward, ring-closed, accepted-serializable}
 use Rattle.demands.proofs.Entries.{written, capacity, entries-length, filled-entries, filled-reads, filled-untouched}
 use Rattle.demands.proofs.LastCells.{at-front, last-cells-length, last-cell-at}
 use Rattle.demands.proofs.Refusals.{check-tabled}
 
 -- The result for lists of either form, and the outcome.
-abbrev pub resultIn : Form → (program recorded order cells : List ℕ) → Result Verdicts
-resultIn form program recorded order cells = checkResult zeroStart program recorded (capacity form order) (capacity form cells)
+abbrev pub resultIn : Form → (program start recorded order cells : List ℕ) → Result Verdicts
+resultIn form program start recorded order cells = checkResult program start recorded (capacity form order) (capacity form cells)
 
 abbrev pub outcomeIn : Form → (order cells : List ℕ) → Result Verdicts → Outcome
 outcomeIn form order cells (refused r) = record { answer = Refused r; order = order; cells = cells }
@@ -61,12 +60,12 @@ count-listed : (v : Verdict) → countIn (answered v) ≡ length (listed v)
 count-listed (ordered groups) = refl
 count-listed (cyclic groups) = refl
 
-module _ (form : Form) (program recorded order cells : List ℕ) (bytes : AreBytes recorded) where
+module _ (form : Form) (program start recorded order cells : List ℕ) (bytes : AreBytes recorded) where
   abbrev result : Result Verdicts
-  result = resultIn form program recorded order cells
+  result = resultIn form program start recorded order cells
 
   abbrev Given : Accepted → Type 0
-  Given = Answerable form program recorded order cells
+  Given = Answerable form program start recorded order cells
 
   abbrev verdictsOf : Accepted → Verdicts
   verdictsOf a = record { verdict = verdictOn (a .run); cells = lastCells a }
@@ -82,7 +81,7 @@ module _ (form : Form) (program recorded order cells : List ℕ) (bytes : AreByt
   result-given : (v : Verdicts) → result ≡ ok v → (a : Accepted) × Given a × (verdictsOf a ≡ v)
   unfolding checkResultIn
   result-given v h =
-      let (a, accepted, h₁) = bind-ok (accept zeroStart program recorded) _ h in
+      let (a, accepted, h₁) = bind-ok (accept program start recorded) _ h in
       let (o, h₂) = required (leb (groupsOf a) (capacity form order)) orderTooShort (groupsOf a) _ h₁ in
       let (c, h₃) = required (leb (cellsOf a) (capacity form cells)) memoryTooShort (cellsOf a) _ h₂ in
       let given : Given a =
@@ -93,10 +92,10 @@ module _ (form : Form) (program recorded order cells : List ℕ) (bytes : AreByt
       } in
       (a, given, ok-injective h₃)
 
-  second : Demand2 program recorded
+  second : Demand2 program start recorded
   second =
       record {
-        accepted-exactly-if-run = λ P last. accepted-iff-run zeroStart program recorded P last bytes;
+        accepted-exactly-if-run = λ P readings last. accepted-iff-run program start recorded P readings last bytes;
         arrows-are-happens-before = λ a accepted. arrows-are-happens-before (a .run .events);
       }
 
@@ -108,10 +107,10 @@ module _ (form : Form) (program recorded order cells : List ℕ) (bytes : AreByt
     refused-as : (s : Refusal) → Refused r ≡ Refused s → RefusedAs order cells (outcomeIn form order cells (refused r)) s
     refused-as s h =
         let same : r ≡ s = cc in
-        let tabled = check-tabled zeroStart program recorded (capacity form order) (capacity form cells) .row r is in
+        let tabled = check-tabled program start recorded (capacity form order) (capacity form cells) .row r is in
         rw (← same) (record { tabled = tabled; same-order = refl; same-cells = refl })
 
-    refusal-meets : MeetsDemands form program recorded order cells (outcomeIn form order cells (refused r))
+    refusal-meets : MeetsDemands form program start recorded order cells (outcomeIn form order cells (refused r))
     refusal-meets =
         record {
           demand1 =
@@ -133,13 +132,13 @@ module _ (form : Form) (program recorded order cells : List ℕ) (bytes : AreByt
 
     -- What is known of its verdict.
     forward : (groups : List ℕ) → verdictOn (a .run) ≡ ordered groups → TopologicalOrder (groupsOf a) (arrowsOf a) groups
-    forward = order-forward zeroStart program recorded a bytes (given .accepted)
+    forward = order-forward program start recorded a bytes (given .accepted)
 
     closed : (cycle : List ℕ) → verdictOn (a .run) ≡ cyclic cycle → Cycle (groupsOf a) (arrowsOf a) cycle
-    closed = ring-closed zeroStart program recorded a bytes (given .accepted)
+    closed = ring-closed program start recorded a bytes (given .accepted)
 
-    serial : Serializable (a .program) zeroStart (a .run)
-    serial = accepted-serializable zeroStart program recorded a bytes (given .accepted)
+    serial : Serializable (a .program) (a .readings) (a .run)
+    serial = accepted-serializable program start recorded a bytes (given .accepted)
 
     -- The cell list: the last cells, and behind them what it was.
     cell-read : (rank cell : ℕ) → Rank (a .program) rank → Cell (a .program) cell →
@@ -182,7 +181,7 @@ module _ (form : Form) (program recorded order cells : List ℕ) (bytes : AreByt
     only : (b : Accepted) → Given b → a ≡ b
     only b also = ok-injective (sym (given .accepted) ∙ also .accepted)
 
-    first : Demand1 form program recorded order cells filled
+    first : Demand1 form program start recorded order cells filled
     first =
         record {
           verdict-exactly-if = ((λ v. (a, given)), (λ h. is-verdict (verdictOn (a .run))));
@@ -203,15 +202,15 @@ module _ (form : Form) (program recorded order cells : List ℕ) (bytes : AreByt
           order-listed = order-read;
         }
 
-    verdict-meets : MeetsDemands form program recorded order cells filled
+    verdict-meets : MeetsDemands form program start recorded order cells filled
     verdict-meets = record { demand1 = first; demand2 = second; demand3 = λ b also. rw (← (only b also)) third }
 
   -- Either way.
-  pub outcome-meets : MeetsDemands form program recorded order cells (outcomeIn form order cells result)
+  pub outcome-meets : MeetsDemands form program start recorded order cells (outcomeIn form order cells result)
   outcome-meets = by-result result refl
     where
-      by-result : (m : Result Verdicts) → result ≡ m → MeetsDemands form program recorded order cells (outcomeIn form order cells m)
+      by-result : (m : Result Verdicts) → result ≡ m → MeetsDemands form program start recorded order cells (outcomeIn form order cells m)
       by-result (refused r) is = refusal-meets r is
       by-result (ok v) is =
           let (a, given, same) = result-given v is in
-          subst (λ v. MeetsDemands form program recorded order cells (outcomeIn form order cells (ok v))) same (verdict-meets a given)
+          subst (λ v. MeetsDemands form program start recorded order cells (outcomeIn form order cells (ok v))) same (verdict-meets a given)

@@ -1,5 +1,5 @@
 -- Every refusal has one of the check's numbers: what is refused by the whole is refused by a part.
-use Prim.Native.Nat.{ℕ, zero, suc, _+_, _*_}
+use Prim.Native.Nat.{ℕ, zero, suc, _+_, _-_, _*_, _^_}
 use mathlib.Core.Path.{_≡_, refl}
 use mathlib.Core.Bool.{Bool, true, _&&_}
 use mathlib.Core.List.{List, [], _∷_}
@@ -10,11 +10,12 @@ use Rattle.model.specs.declared.Header.{Header}
 use Rattle.model.specs.declared.Item.{Item}
 use Rattle.model.specs.declared.ItemForm.{ItemForm}
 use Rattle.model.specs.declared.ItemForm.the-variants.{Good, UnknownKind, WrongMap}
-use Rattle.model.specs.Limits.{maxTokens, shortTransitions, maxTransitions, longCount, maxItems}
+use Rattle.model.specs.Limits.{mapSize, maxValue, maxTokens, shortTransitions, maxTransitions, longCount, maxItems}
 use Rattle.model.specs.Refusals.{programLength, programRange, programForm, recordLength, recordRange, recordForm, wrongTransition, operandRange}
-use Rattle.model.specs.Refusals.{assumeFails, emptyQueue, accessDiffers, barrierRow, queuesLeft, orderTooShort, memoryTooShort, noValue}
-use Rattle.model.specs.Choice.{between, bit, lookup}
-use Rattle.model.specs.Bytes.{Reader, byte, judged}
+use Rattle.model.specs.Refusals.{assumeFails, emptyQueue, accessDiffers, barrierRow, queuesLeft, orderTooShort, memoryTooShort, noValue, startForm}
+use Rattle.model.specs.Choice.{between, bit, lookup, numbersFrom}
+use Rattle.model.specs.Bytes.{Reader, byte, bigEndian, judged}
+use Rattle.model.specs.Marked.{readMarked}
 use Rattle.model.specs.ItemKinds.{sameKind, Part, command, fetch, delivery, partOf}
 use Rattle.model.specs.Expressions.{Expression, constant, Token, constantToken, registerToken, ownRankToken, rankCountToken, operatorToken, tokens}
 use Rattle.model.specs.Expressions.{Counted, noTokenLeft, afterToken, onToken, readExpression, expression}
@@ -23,6 +24,7 @@ use Rattle.model.specs.Programs.{headerNumber, countByte, transitionCount, read
 use Rattle.model.specs.ItemForms.{itemForm, judgedItemForm}
 use Rattle.model.specs.Records.{readItemIn, readItem, recordReaderIn, readRecordIn, readRecord}
 use Rattle.model.specs.Machine.{Start, Request, Delivery, valueOf, value, ranged, transfer, action}
+use Rattle.model.specs.StartBytes.{startMap, rankReader, startReader, readStart}
 use Rattle.model.specs.Replay.{Origin, Replay, Taken, rowAllows, agreesWith, agreed, takeTransition, takeFetch, takeDelivery, takePart, takeItem}
 use Rattle.model.specs.Replay.{afterCommand, afterFetch, afterDelivery, requestFor, deliveryFor, oldest, takeItems, begin, quiet, atEnd, replay}
 use Rattle.model.specs.Checks.{acceptIn, checkResultIn, checkResult}
@@ -243,15 +245,42 @@ module _ (P : Program) where
       bind-tabled (require-tabled (quiet P (r .last .machine)) queuesLeft (length items) refl) λ _.
       ok-tabled r
 
+-- The start.
+marked-faults : (first most map : ℕ) (numbers : List ℕ) → Faults CheckRow (readMarked first most startForm map numbers)
+unfolding readMarked
+marked-faults first most map [] = pure-faults []
+marked-faults first most map (n ∷ numbers) =
+    bind-faults (optional-faults (bit (n - first) map) 0 (judged-faults (between 1 most) startForm refl (word-faults startForm refl))) λ value.
+    bind-faults (marked-faults first most map numbers) λ rest.
+    pure-faults _
+
+big-faults : (size high : ℕ) → Faults CheckRow (bigEndian startForm size high)
+unfolding bigEndian
+big-faults zero high = pure-faults high
+big-faults (suc size) high = bind-faults (byte-faults startForm refl) λ low. big-faults size _
+
+rank-faults : (cells : ℕ) → Faults CheckRow (rankReader cells)
+unfolding rankReader startMap
+rank-faults cells =
+    bind-faults (judged-faults (λ map. ltb map (2 ^ cells)) startForm refl (big-faults mapSize 0)) λ map.
+    marked-faults 0 maxValue map (numbersFrom 0 cells)
+
+start-tabled : (header : Header) (start : List ℕ) → Tabled CheckRow (readStart header start)
+unfolding readStart startReader
+start-tabled header [] = ok-tabled _
+start-tabled header (first ∷ rest) =
+    bind-tabled (whole-tabled startForm (first ∷ rest) refl (times-faults (header .ranks) (rank-faults (header .cells)))) λ readings. ok-tabled _
+
 -- The whole check.
-pub check-tabled : (start : Start) (program recorded : List ℕ) (orderLength cellsLength : ℕ) →
-    Tabled CheckRow (checkResult start program recorded orderLength cellsLength)
+pub check-tabled : (program start recorded : List ℕ) (orderLength cellsLength : ℕ) →
+    Tabled CheckRow (checkResult program start recorded orderLength cellsLength)
 unfolding checkResultIn acceptIn
-check-tabled start program recorded orderLength cellsLength =
+check-tabled program start recorded orderLength cellsLength =
     bind-tabled
     (bind-tabled (program-tabled program) λ P.
+    bind-tabled (start-tabled (P .header) start) λ readings.
     bind-tabled (record-tabled (P .header) recorded) λ items.
-    bind-tabled (replay-tabled P start items) λ run.
+    bind-tabled (replay-tabled P readings items) λ run.
     ok-tabled _) λ a.
     bind-tabled (require-tabled (leb (a .run .last .opened) orderLength) orderTooShort _ refl) λ _.
     bind-tabled (require-tabled (leb (a .program .header .ranks * a .program .header .cells) cellsLength) memoryTooShort _ refl) λ _.

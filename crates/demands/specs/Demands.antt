@@ -12,11 +12,12 @@ use Rattle.model.specs.declared.Answer.{Answer}
 use Rattle.model.specs.declared.Answer.the-variants.{Order, Ring, Refused}
 use Rattle.model.specs.declared.Item.{Item}
 use Rattle.model.specs.declared.Refusal.{Refusal}
-use Rattle.model.specs.Refusals.{ok, programLength, memoryTooShort, noValue}
+use Rattle.model.specs.Refusals.{ok, programLength, memoryTooShort, noValue, startForm}
 use Rattle.model.specs.Choice.{between}
 use Rattle.model.specs.Programs.{Program, readProgram}
 use Rattle.model.specs.Records.{readRecord}
-use Rattle.model.specs.Machine.{Start, zeroStart}
+use Rattle.model.specs.Machine.{Start}
+use Rattle.model.specs.StartBytes.{readStart}
 use Rattle.model.specs.Rules.{Bare, Rank, Cell, IsRun}
 use Rattle.model.specs.Replay.{Replayed}
 use Rattle.model.specs.HappensBefore.{Edge, HappensBefore, edgesOf}
@@ -29,23 +30,24 @@ use Rattle.ordering.proofs.Orders.{TopologicalOrder, Cycle}
 use Rattle.serializability.specs.Claim.{Serialization}
 use Rattle.demands.specs.Entries.{Form, width, entries, firstEntries}
 
--- These bytes are accepted: the check reads this program, refuses nothing, and the machine is left in this state.
-pub record AcceptedTo (start : Start) (program recorded : List ℕ) (P : Program) (last : Bare) : Type 0 where
+-- These bytes are accepted: the check reads this program and these readings, refuses nothing, and the machine is left in this state.
+pub record AcceptedTo (program start recorded : List ℕ) (P : Program) (readings : Start) (last : Bare) : Type 0 where
   pub run : Replayed
-  pub accepted : accept start program recorded ≡ ok (record { program = P; run = run })
+  pub accepted : accept program start recorded ≡ ok (record { program = P; readings = readings; run = run })
   pub state : bare (run .last .machine) ≡ last
 
--- These bytes are a run: a readable program, a readable record for it, and its items record a run of the program under Table 1 from the start to this
--- state, with empty queues.
-pub record AreRun (start : Start) (program recorded : List ℕ) (P : Program) (last : Bare) : Type 0 where
+-- These bytes are a run: a readable program, readings for it, a readable record for it, and its items record a run of the program under Table 1 from
+-- the readings to this state, with empty queues.
+pub record AreRun (program start recorded : List ℕ) (P : Program) (readings : Start) (last : Bare) : Type 0 where
   pub items : List Item
   pub program-read : readProgram program ≡ ok P
+  pub start-read : readStart (P .header) start ≡ ok readings
   pub record-read : readRecord (P .header) recorded ≡ ok items
-  pub is-run : IsRun P start items last
+  pub is-run : IsRun P readings items last
 
--- A readable program and an accepted record of it, from document 01's start: "cells and registers start at 0".
-abbrev pub IsAccepted : (program recorded : List ℕ) → Accepted → Type 0
-IsAccepted program recorded a = accept zeroStart program recorded ≡ ok a
+-- A readable program and an accepted record of it, from these start bytes.
+abbrev pub IsAccepted : (program start recorded : List ℕ) → Accepted → Type 0
+IsAccepted program start recorded a = accept program start recorded ≡ ok a
 
 -- The groups of an accepted record, the arrows between them, and "N × A".
 abbrev pub groupsOf : Accepted → ℕ
@@ -58,8 +60,8 @@ abbrev pub cellsOf : Accepted → ℕ
 cellsOf a = a .program .header .ranks * a .program .header .cells
 
 -- "A readable program and an accepted record of it, with long enough result memory".
-pub record Answerable (form : Form) (program recorded order cells : List ℕ) (a : Accepted) : Type 0 where
-  pub accepted : IsAccepted program recorded a
+pub record Answerable (form : Form) (program start recorded order cells : List ℕ) (a : Accepted) : Type 0 where
+  pub accepted : IsAccepted program start recorded a
   pub order-fits : groupsOf a ≤ length (entries form order)
   pub cells-fit : cellsOf a ≤ length (entries form cells)
 
@@ -79,9 +81,9 @@ pub record Untouched (form : Form) (count : ℕ) (before after : List ℕ) : Typ
   pub size : length after ≡ length before
   pub beyond : drop (width form * count) after ≡ drop (width form * count) before
 
--- The check's numbers: of the table's rows 1 to 15, and document 02's 18.
+-- The check's numbers: of the table's rows 1 to 15, and document 02's 18 and 19.
 abbrev pub isCheckNumber : ℕ → Bool
-isCheckNumber number = between programLength memoryTooShort number || eqb number noValue
+isCheckNumber number = between programLength memoryTooShort number || eqb number noValue || eqb number startForm
 
 -- "one number of document 01's table with its place, and lent memory holds what it held".
 pub record RefusedAs (order cells : List ℕ) (o : Outcome) (r : Refusal) : Type 0 where
@@ -91,29 +93,29 @@ pub record RefusedAs (order cells : List ℕ) (o : Outcome) (r : Refusal) : Type
 
 -- Demand 1. "A readable program and an accepted record of it, with long enough result memory, get an order or a ring, and the last contents of every
 -- cell. All other input gets one number of document 01's table with its place, and lent memory holds what it held."
-pub record Demand1 (form : Form) (program recorded order cells : List ℕ) (o : Outcome) : Type 0 where
-  pub verdict-exactly-if : IsVerdict (o .answer) ↔ ((a : Accepted) × Answerable form program recorded order cells a)
+pub record Demand1 (form : Form) (program start recorded order cells : List ℕ) (o : Outcome) : Type 0 where
+  pub verdict-exactly-if : IsVerdict (o .answer) ↔ ((a : Accepted) × Answerable form program start recorded order cells a)
   -- "The last cell values, rank 1 first, fill the first N × A entries of a second list."
-  pub last-cells : (a : Accepted) → Answerable form program recorded order cells a →
+  pub last-cells : (a : Accepted) → Answerable form program start recorded order cells a →
       (rank cell : ℕ) → Rank (a .program) rank → Cell (a .program) cell →
       getElem? (entries form (o .cells)) ((rank - 1) * a .program .header .cells + cell) ≡ some (a .run .last .machine .cells rank cell)
   -- "Entries beyond are untouched."
-  pub cells-beyond : (a : Accepted) → Answerable form program recorded order cells a → Untouched form (cellsOf a) cells (o .cells)
+  pub cells-beyond : (a : Accepted) → Answerable form program start recorded order cells a → Untouched form (cellsOf a) cells (o .cells)
   pub order-beyond : Untouched form (countIn (o .answer)) order (o .order)
   pub other-input : (r : Refusal) → o .answer ≡ Refused r → RefusedAs order cells o r
 
 -- Demand 2. "A record is accepted exactly if it is a run of the program under Table 1 of the source, ending with empty queues, and the arrows drawn
 -- are its happens-before relation between groups."
-pub record Demand2 (program recorded : List ℕ) : Type 0 where
-  pub accepted-exactly-if-run : (P : Program) (last : Bare) →
-      AcceptedTo zeroStart program recorded P last ↔ AreRun zeroStart program recorded P last
-  pub arrows-are-happens-before : (a : Accepted) → IsAccepted program recorded a →
+pub record Demand2 (program start recorded : List ℕ) : Type 0 where
+  pub accepted-exactly-if-run : (P : Program) (readings : Start) (last : Bare) →
+      AcceptedTo program start recorded P readings last ↔ AreRun program start recorded P readings last
+  pub arrows-are-happens-before : (a : Accepted) → IsAccepted program start recorded a →
       (g h : ℕ) → (g ⟶ h ∈ arrowsOf a) ↔ HappensBefore (a .run .events) g h
 
--- No plain run of the program, of any length, from the same start has the record's trace.
+-- No plain run of the program, of any length, from the same start has the record's trace: "A plain run begins from those readings too".
 abbrev pub NoSerialRun : Accepted → Type 0
 NoSerialRun a =
-    (items : List Item) (run : Replayed) → SerialRun (a .program) zeroStart items run → ¬ (SameTrace (a .run .events) (run .events))
+    (items : List Item) (run : Replayed) → SerialRun (a .program) (a .readings) items run → ¬ (SameTrace (a .run .events) (run .events))
 
 -- "two or more groups, no repeat, each with an arrow to the next and the last to the first; listed from its lowest number": so many.
 pub record IsRing (a : Accepted) (groups : List ℕ) (n : ℕ) : Type 0 where
@@ -126,7 +128,7 @@ pub record IsOrder (a : Accepted) (groups : List ℕ) (n : ℕ) : Type 0 where
   pub count : n ≡ groupsOf a
   pub forward : TopologicalOrder (groupsOf a) (arrowsOf a) groups
   pub run : Replayed
-  pub serial : Serialization (a .program) zeroStart (a .run) (orderItems groups (a .run .events)) run
+  pub serial : Serialization (a .program) (a .readings) (a .run) (orderItems groups (a .run .events)) run
 
 -- Demand 3. "For every readable program and every accepted record: a ring is returned exactly when no plain run of the program from the same start
 -- has the record's trace; otherwise the returned order is a plain run with that trace, the record's value at each access, and the same last cells
@@ -137,7 +139,7 @@ pub record Demand3 (form : Form) (a : Accepted) (o : Outcome) : Type 0 where
   pub order-listed : (n : ℕ) → o .answer ≡ Order n → IsOrder a (firstEntries form n (o .order)) n
 
 -- All three, of what the check does with these bytes and these lists.
-pub record MeetsDemands (form : Form) (program recorded order cells : List ℕ) (o : Outcome) : Type 0 where
-  pub demand1 : Demand1 form program recorded order cells o
-  pub demand2 : Demand2 program recorded
-  pub demand3 : (a : Accepted) → Answerable form program recorded order cells a → Demand3 form a o
+pub record MeetsDemands (form : Form) (program start recorded order cells : List ℕ) (o : Outcome) : Type 0 where
+  pub demand1 : Demand1 form program start recorded order cells o
+  pub demand2 : Demand2 program start recorded
+  pub demand3 : (a : Accepted) → Answerable form program start recorded order cells a → Demand3 form a o

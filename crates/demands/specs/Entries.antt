@@ -1,9 +1,9 @@
 -- The entries of a lent list, as its caller reads them. Document 01 has a "lent 16-bit list"; for the recorder "both lists there are bytes, two an
 -- entry, and an odd last byte is never used".
-use Prim.Native.Nat.{ℕ, _+_, _*_}
-use mathlib.Core.List.{List, [], _∷_}
+use Prim.Native.Nat.{ℕ}
+use mathlib.Core.List.{List}
 use lib.ListN.{take}
-use Rattle.model.specs.Limits.{byteValues}
+use Rattle.model.specs.Checks.{twoByTwo}
 
 -- A list of 16-bit numbers, one an entry; or of bytes, two an entry.
 pub data Form : Type 0 where
@@ -12,12 +12,6 @@ pub data Form : Type 0 where
 abbrev pub width : Form → ℕ
 width numbers = 1
 width bytes = 2
-
--- "Two-byte numbers are big-endian." An odd last byte is in no entry.
-unfoldable pub twoByTwo : List ℕ → List ℕ
-twoByTwo [] = []
-twoByTwo (odd ∷ []) = []
-twoByTwo (high ∷ low ∷ rest) = (high * byteValues + low) ∷ twoByTwo rest
 
 -- The entries of a list.
 abbrev pub entries : Form → List ℕ → List ℕ

@@ -16,10 +16,10 @@ use Rattle.model.specs.Limits.{maxItems}
 use Rattle.model.specs.Refusals as Refusals
 use Rattle.model.specs.Refusals.{Result, ok, refused, recordLength, recordRange}
 use Rattle.model.specs.Choice.{between}
-use Rattle.model.specs.Bytes.{Found, Reader, found, word, times}
+use Rattle.model.specs.Bytes.{Found, found, word, times}
 use Rattle.model.specs.Records.{readItem, readRecordIn, readRecord}
 use Rattle.model.proofs.Laws.{refused≢ok, ok-injective, bind-ok, bind-assoc, decided}
-use Rattle.model.proofs.Bytes.{judged-ok, word-next}
+use Rattle.model.proofs.Bytes.{finds-counted, judged-ok, word-next}
 use Rattle.fields.specs.declared.Field as Field
 use Rattle.fields.specs.declared.Field.{Field}
 use Rattle.fields.specs.Fields.{fieldOf, fieldRefusal, judgedField}
@@ -88,16 +88,6 @@ to-end : (header : Header) (count : ℕ) (bytes : List ℕ) (at : ℕ) {items : 
 unfolding itemsToEnd
 to-end header count bytes at h = ends bytes (times count (readItem header) bytes at) h
 
--- So many were asked for, so many were read.
-times-length : {A : Type 0} (n : ℕ) (read : Reader A) (bytes : List ℕ) (at : ℕ) {f : Found (List A)} → times n read bytes at ≡ ok f →
-    length (f .value) ≡ n
-unfolding times
-times-length {A} zero read bytes at h = ap (λ (f : Found (List A)). length (f .value)) (sym (ok-injective h))
-times-length {A} (suc n) read bytes at h =
-    let (a, ea, h₁) = bind-ok (read bytes at) _ h in
-    let (rest, er, h₂) = bind-ok (times n read bytes (a .next)) _ h₁ in
-    ap (λ (f : Found (List A)). length (f .value)) (sym (ok-injective h₂)) ∙ ap suc (times-length n read bytes (a .next) er)
-
 counts : (n : ℕ) (m : Result (List Item)) → ((items : List Item) → m ≡ ok items → length items ≡ n) → counted n m ≡ recordRead m
 counts n (ok items) h = rw (h items refl)
 counts n (refused r) h = refl
@@ -105,7 +95,7 @@ counts n (refused r) h = refl
 counted-is : (header : Header) (count : ℕ) (bytes : List ℕ) (at : ℕ) →
     counted count (itemsToEnd header count bytes at) ≡ recordRead (itemsToEnd header count bytes at)
 counted-is header count bytes at =
-    counts count (itemsToEnd header count bytes at) (λ items h. times-length count (readItem header) bytes at (to-end header count bytes at h))
+    counts count (itemsToEnd header count bytes at) (λ items h. finds-counted count (readItem header) .holds at _ (to-end header count bytes at h))
 
 -- The count is a word within its limit; where it is refused, so is the record, and where it is read, the items follow.
 from-zero : (high : ℕ) → between 0 high ≡ (λ n. leb n high)
@@ -144,7 +134,7 @@ record-items header bytes {items} h =
     let (f, ef, h₁) = bind-ok (itemCount bytes 0) _ (rw readRecord-is at h) in
     let (ew, t) = judged-ok (λ n. leb n maxItems) recordRange (word recordLength) bytes 0 ef in
     let e = to-end header (f .value) bytes (f .next) h₁ in
-    let l : length items ≡ f .value = times-length (f .value) (readItem header) bytes (f .next) e in
+    let l : length items ≡ f .value = finds-counted (f .value) (readItem header) .holds (f .next) _ e in
     let n : f .next ≡ 2 = word-next recordLength bytes 0 ew in
     record {
       count = rw (l, ← n) ew;

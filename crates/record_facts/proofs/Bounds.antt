@@ -15,18 +15,19 @@ use Rattle.model.specs.declared.Item.{Item}
 use Rattle.model.specs.Limits.{maxItems}
 use Rattle.model.specs.Refusals.{ok, barrierRow, queuesLeft, recordLength, recordRange}
 use Rattle.model.specs.Choice.{Each, all, one}
-use Rattle.model.specs.Bytes.{Reader, word, judged, times}
+use Rattle.model.specs.Bytes.{word, judged}
 use Rattle.model.specs.ItemKinds.{hasPlace}
-use Rattle.model.specs.Programs.{Program, Command, Transition, HeaderFits, readProgram}
+use Rattle.model.specs.Programs.{Program, Command, Transition, HeaderFits}
 use Rattle.model.specs.Records.{readItem, recordReaderIn, recordReader, readRecordIn, readRecord}
 use Rattle.model.specs.Machine.{Access, Action, loads, stores, assigns, passes, issues, meets}
 use Rattle.model.specs.Machine.{Start, initial, moveTo, setRegister, setCell, setRequests, setDeliveries}
 use Rattle.model.specs.Replay.{Event, Replay, Taken, Replayed, joinsRow, openedAfter, originOf, accessOf, perform}
 use Rattle.model.specs.Replay.{takeItem, takeItems, sameAddress, agreesWith, begin, quiet, atEnd, replay}
 use Rattle.model.specs.HappensBefore.{At, rankOf}
-use Rattle.model.specs.Checks.{Accepted, acceptIn, accept}
+use Rattle.model.specs.Checks.{Accepted, accept}
 use Rattle.model.proofs.Laws.{Within, decided, and-true, bind-ok, required, ok-injective, put₂-holds}
-use Rattle.model.proofs.Bytes.{Finds, finds-anything, finds-pure, finds-bind, finds-judged, finds-times, finds-weaker, whole-finds}
+use Rattle.model.proofs.Accepted.{accepted-parts}
+use Rattle.model.proofs.Bytes.{finds-anything, finds-bind, finds-judged, finds-times, finds-counted, finds-weaker, whole-finds}
 use Rattle.model.proofs.Ranges.{Ranged, item-finds, header-fits}
 use Rattle.model.proofs.Actions.{Asks, loading, storing, assigning, passing, reading, writing, meeting, action-asks}
 use Rattle.model.proofs.Replay.{CommandTaken, ItemTaken, commands, fetches, delivers, item-taken, taken-oldest, sameAddress-true}
@@ -245,12 +246,6 @@ module _ (P : Program) {bytes : List ℕ} where
       (record { requests = λ rank queue. all; deliveries = λ rank queue. all; row = λ h. omega arith }) taken)
 
 -- The items that were read: in their ranges, and no more than a record has.
-times-counted : {bytes : List ℕ} {A : Type 0} (n : ℕ) (read : Reader A) → Finds bytes (times n read) (λ l. length l ≡ n)
-unfolding times
-times-counted zero read = finds-pure [] refl
-times-counted (suc n) read =
-    finds-bind (finds-anything read) λ a _. finds-bind (times-counted n read) λ rest e. finds-pure (a ∷ rest) (ap suc e)
-
 module _ (header : Header) (bytes : List ℕ) where
   pub read-ranged : {items : List Item} → readRecord header bytes ≡ ok items → Each (Ranged header bytes) items
   unfolding readRecordIn recordReaderIn
@@ -263,7 +258,7 @@ module _ (header : Header) (bytes : List ℕ) where
   read-few =
       whole-finds recordLength (recordReader header) bytes (λ items. length items ≤ maxItems)
       (finds-bind (finds-judged (λ n. leb n maxItems) recordRange (word recordLength)) λ count few.
-      finds-weaker (times-counted count (readItem header)) (λ items e. rw e (leb-true count maxItems few)))
+      finds-weaker (finds-counted count (readItem header)) (λ items e. rw e (leb-true count maxItems few)))
 
 -- An accepted record.
 pub record AcceptedBounds (a : Accepted) : Type 0 where
@@ -271,16 +266,13 @@ pub record AcceptedBounds (a : Accepted) : Type 0 where
   pub few : length (a .run .events) ≤ maxItems
   pub bounds : Bounds (a .program .header) 0 (length (a .run .events)) (a .run)
 
-pub accepted-bounds : (start : Start) (program recorded : List ℕ) (a : Accepted) → accept start program recorded ≡ ok a → AcceptedBounds a
-unfolding acceptIn
-accepted-bounds start program recorded a h =
-    let (P, read, h₁) = bind-ok (readProgram program) _ h in
-    let (items, recorded-read, h₂) = bind-ok (readRecord (P .header) recorded) _ h₁ in
-    let (run, replayed, h₃) = bind-ok (replay P start items) _ h₂ in
-    let bounds = replayed-bounds P start items (read-ranged (P .header) recorded recorded-read) replayed in
-    rw (← (ok-injective h₃))
-    (record {
-      header = header-fits program read;
-      few = rw (bounds .counted) (read-few (P .header) recorded recorded-read);
+pub accepted-bounds : (program start recorded : List ℕ) (a : Accepted) → accept program start recorded ≡ ok a → AcceptedBounds a
+accepted-bounds program start recorded a accepted =
+    let p = accepted-parts program start recorded a accepted in
+    let header = a .program .header in
+    let bounds = replayed-bounds (a .program) (a .readings) (p .items) (read-ranged header recorded (p .record-read)) (p .replayed) in
+    record {
+      header = header-fits program (p .program-read);
+      few = rw (bounds .counted) (read-few header recorded (p .record-read));
       bounds = rw (bounds .counted) bounds;
-    })
+    }

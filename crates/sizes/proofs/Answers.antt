@@ -9,26 +9,25 @@ use lib.ListN.{length}
 use borrow.Author.Tests.{le-leb}
 use Rattle.model.specs.Limits.{maxRanks, maxCells, maxItems}
 use Rattle.model.specs.Refusals.{Result, ok, refused}
-use Rattle.model.specs.Machine.{Start, zeroStart}
 use Rattle.model.specs.Checks.{Accepted, Verdicts, accept, checkResultIn, checkResult, outcome, outcomeBytes, checkIn, check, checkBytesIn, checkBytes}
 use Rattle.record_facts.proofs.Bounds.{accepted-bounds}
 use Rattle.sizes.specs.Texts.{answerOf, resultOf}
 
-module _ (start : Start) (program recorded : List ℕ) (groups cells : ℕ) (long : maxItems ≤ groups) (wide : maxRanks * maxCells ≤ cells) where
-  result-is : (m : Result Accepted) → accept start program recorded ≡ m → checkResult start program recorded groups cells ≡ resultOf m
+module _ (program start recorded : List ℕ) (groups cells : ℕ) (long : maxItems ≤ groups) (wide : maxRanks * maxCells ≤ cells) where
+  result-is : (m : Result Accepted) → accept program start recorded ≡ m → checkResult program start recorded groups cells ≡ resultOf m
   unfolding checkResultIn
   result-is (refused r) h = rw h
   result-is (ok a) h =
-      let b = accepted-bounds start program recorded a h in
+      let b = accepted-bounds program start recorded a h in
       let few : a .run .last .opened ≤ groups = omega (arith, b .bounds .most, b .few) in
       let narrow : a .program .header .ranks * a .program .header .cells ≤ cells =
       omega (arith, mul-le-mul (b .header .ranksFit) (b .header .cellsFit)) in
       rw (h, le-leb _ _ few, le-leb _ _ narrow)
 
 -- The check on lists of numbers, and of bytes.
-module _ (program recorded order cells : List ℕ) where
+module _ (program start recorded order cells : List ℕ) where
   abbrev accepted : Result Accepted
-  accepted = accept zeroStart program recorded
+  accepted = accept program start recorded
 
   answers-alike : (m : Result Accepted) {r : Result Verdicts} → r ≡ resultOf m → outcome order cells r .answer ≡ answerOf m
   unfolding outcome
@@ -41,13 +40,13 @@ module _ (program recorded order cells : List ℕ) where
   answers-alike-bytes (ok a) is = rw is
 
   pub check-answers : maxItems ≤ length order → maxRanks * maxCells ≤ length cells →
-      check program recorded order cells .answer ≡ answerOf accepted
+      check program start recorded order cells .answer ≡ answerOf accepted
   unfolding checkIn
-  check-answers long wide = answers-alike accepted (result-is zeroStart program recorded (length order) (length cells) long wide accepted refl)
+  check-answers long wide = answers-alike accepted (result-is program start recorded (length order) (length cells) long wide accepted refl)
 
   pub checkBytes-answers : 2 * maxItems ≤ length order → 2 * (maxRanks * maxCells) ≤ length cells →
-      checkBytes program recorded order cells .answer ≡ answerOf accepted
+      checkBytes program start recorded order cells .answer ≡ answerOf accepted
   unfolding checkBytesIn
   checkBytes-answers long wide =
       answers-alike-bytes accepted
-      (result-is zeroStart program recorded (length order / 2) (length cells / 2) (omega (arith, long)) (omega (arith, wide)) accepted refl)
+      (result-is program start recorded (length order / 2) (length cells / 2) (omega (arith, long)) (omega (arith, wide)) accepted refl)

@@ -10,7 +10,6 @@ use Rattle.model.specs.declared.Header.{Header}
 use Rattle.model.specs.Limits.{maxItems, wordValues}
 use Rattle.model.specs.Refusals.{Result, ok, refused}
 use Rattle.model.specs.Bytes.{AreBytes}
-use Rattle.model.specs.Machine.{Start, zeroStart}
 use Rattle.model.specs.Orders.{Verdict}
 use Rattle.model.specs.Checks.{Accepted, accept, verdictOn, listed, rankByRank, fill}
 use Rattle.model.specs.Listings.{listingIn, listing, printed, printedOf, listingOf, line, verdictWord, decimal, groupLines, cellLine, join}
@@ -52,17 +51,15 @@ module _ (a : Accepted) (b : AcceptedBounds a) where
         cell-lines-short (header .ranks) (header .cells) (a .run .last .machine .cells) (b .header .ranksFit) (b .header .cellsFit) fits,
       )
 
--- What is printed of a program and a record, from any start whose values fit sixteen bits, and from document 01's.
-module _ (start : Start) (begun : (rank cell : ℕ) → start rank cell < wordValues) (program recorded : List ℕ) (bound : AreBytes program) where
-  pub acceptance-short : (m : Result Accepted) → accept start program recorded ≡ m → length (textOf m) ≤ maxListingBytes
-  acceptance-short (refused r) h = omega (arith, refused-line-short r (refusal-fits start program recorded r h))
+-- What is printed of a program and a record.
+module _ (program start recorded : List ℕ) (bound : AreBytes program) where
+  acceptance-short : (m : Result Accepted) → accept program start recorded ≡ m → length (textOf m) ≤ maxListingBytes
+  acceptance-short (refused r) h = omega (arith, refused-line-short r (refusal-fits program start recorded r h))
   acceptance-short (ok a) h =
-      listing-short a (accepted-bounds start program recorded a h) (cells-fit start program recorded begun bound h)
+      listing-short a (accepted-bounds program start recorded a h) (cells-fit program start recorded bound h)
 
-pub text-short : (program recorded : List ℕ) → AreBytes program → length (textOf (accept zeroStart program recorded)) ≤ maxListingBytes
-unfolding zeroStart
-text-short program recorded bound =
-    acceptance-short zeroStart (λ rank cell. omega arith) program recorded bound (accept zeroStart program recorded) refl
+  pub text-short : length (textOf (accept program start recorded)) ≤ maxListingBytes
+  text-short = acceptance-short (accept program start recorded) refl
 
 -- Text for which the lent bytes are enough is written whole.
 printed-whole : (memory : List ℕ) (m : Result Accepted) → length (textOf m) ≤ length memory →
@@ -73,12 +70,12 @@ printed-whole memory (refused r) fits = rw (le-leb _ _ fits)
 printed-whole memory (ok a) fits = rw (le-leb _ _ fits)
 
 -- So is every listing where the lent bytes are as many as the longest one has: none is refused for want of bytes.
-pub listing-whole : (program recorded memory : List ℕ) → AreBytes program → maxListingBytes ≤ length memory →
-    listing program recorded memory ≡
+pub listing-whole : (program start recorded memory : List ℕ) → AreBytes program → maxListingBytes ≤ length memory →
+    listing program start recorded memory ≡
     record {
-      result = record { answer = answerOf (accept zeroStart program recorded); length = length (textOf (accept zeroStart program recorded)) };
-      memory = fill (textOf (accept zeroStart program recorded)) memory;
+      result = record { answer = answerOf (accept program start recorded); length = length (textOf (accept program start recorded)) };
+      memory = fill (textOf (accept program start recorded)) memory;
     }
 unfolding listingIn
-listing-whole program recorded memory bound enough =
-    printed-whole memory (accept zeroStart program recorded) (omega (arith, text-short program recorded bound, enough))
+listing-whole program start recorded memory bound enough =
+    printed-whole memory (accept program start recorded) (omega (arith, text-short program start recorded bound, enough))

@@ -1,4 +1,4 @@
--- Every value that an accepted run holds fits sixteen bits, from a start whose values do: a command stores or assigns what an expression comes to,
+-- Every value that an accepted run holds fits sixteen bits, since the readings at its start do: a command stores or assigns what an expression comes to,
 -- and all else that the replay does is to carry values from cells to registers, to deliveries and back.
 use Prim.Native.Nat.{ℕ, _+_, _<_}
 use mathlib.Core.Path.{_≡_}
@@ -11,20 +11,21 @@ use Rattle.model.specs.Limits.{wordValues}
 use Rattle.model.specs.Refusals.{ok, barrierRow, queuesLeft}
 use Rattle.model.specs.Choice.{Each, all, one}
 use Rattle.model.specs.Bytes.{AreBytes}
-use Rattle.model.specs.Programs.{Program, Command, readProgram}
-use Rattle.model.specs.Records.{readRecord}
+use Rattle.model.specs.Programs.{Program, Command}
 use Rattle.model.specs.Machine.{State, Delivery, Action, loads, stores, assigns, passes, issues, meets, valueOf}
 use Rattle.model.specs.Machine.{Start, initial, moveTo, setRegister, setCell, setRequests, setDeliveries}
 use Rattle.model.specs.Replay.{Origin, Replay, Taken, Replayed, perform, takeItem, takeItems, begin, quiet, atEnd, replay}
-use Rattle.model.specs.Checks.{Accepted, acceptIn, accept}
+use Rattle.model.specs.Checks.{Accepted, accept}
 use Rattle.model.proofs.Laws.{bind-ok, required, ok-injective, put₂-holds}
 use Rattle.model.proofs.Ranges.{Ranged, header-fits}
 use Rattle.model.proofs.Actions.{Asks, loading, storing, assigning, passing, reading, writing, meeting, action-asks}
 use Rattle.model.proofs.Replay.{ItemTaken, commands, fetches, delivers, item-taken, taken-oldest}
+use Rattle.model.proofs.Accepted.{accepted-parts}
 use Rattle.record_facts.proofs.Queues.{oldest-out, each-out}
 use Rattle.record_facts.proofs.Rows.{each-snoc}
 use Rattle.record_facts.proofs.Bounds.{read-ranged}
 use Rattle.serializability.proofs.Groups.{each-at}
+use Rattle.sizes.proofs.Readings.{readings-fit}
 use Rattle.sizes.proofs.Constants.{ValueFits, evaluate-fits, values-fit}
 
 abbrev Fits : ℕ → Type 0
@@ -133,13 +134,11 @@ module _ (P : Program) (few : Fits (P .header .ranks)) where
         (record { registers = λ rank index. omega arith; cells = begun; deliveries = λ rank queue. all }) taken)
 
 -- The last cells of an accepted record.
-pub cells-fit : (start : Start) (program recorded : List ℕ) {a : Accepted} → ((rank cell : ℕ) → start rank cell < wordValues) → AreBytes program →
-    accept start program recorded ≡ ok a → (rank cell : ℕ) → a .run .last .machine .cells rank cell < wordValues
-unfolding acceptIn
-cells-fit start program recorded begun bound h =
-    let (P, read, h₁) = bind-ok (readProgram program) _ h in
-    let (items, recorded-read, h₂) = bind-ok (readRecord (P .header) recorded) _ h₁ in
-    let (run, taken, h₃) = bind-ok (replay P start items) _ h₂ in
-    let few : Fits (P .header .ranks) = omega (arith, header-fits program read .ranksFit) in
-    rw (← (ok-injective h₃))
-    (replayed P few (values-fit program bound read) start items begun (read-ranged (P .header) recorded recorded-read) taken .cells)
+pub cells-fit : (program start recorded : List ℕ) {a : Accepted} → AreBytes program → accept program start recorded ≡ ok a →
+    (rank cell : ℕ) → a .run .last .machine .cells rank cell < wordValues
+cells-fit program start recorded {a} bound accepted =
+    let p = accepted-parts program start recorded a accepted in
+    let header = a .program .header in
+    let few : Fits (header .ranks) = omega (arith, header-fits program (p .program-read) .ranksFit) in
+    replayed (a .program) few (values-fit program bound (p .program-read)) (a .readings) (p .items) (readings-fit header start (p .start-read))
+    (read-ranged header recorded (p .record-read)) (p .replayed) .cells

@@ -1,10 +1,14 @@
--- The longest inputs that can be read, in bytes, the longest listing and the longest slip.
+-- The longest inputs that can be read, in bytes, the longest listing and the longest slip. The longest start that is written is the longest readable one.
 use Prim.Native.Nat.{ℕ}
 
 -- Six header numbers, the last in three bytes, then 400 transitions of four bytes and four expressions. Eight of an expression's fifteen tokens are
 -- constants, so it has 31 bytes.
 abbrev pub maxProgramBytes : ℕ
 maxProgramBytes = 51_208
+
+-- For each of sixteen ranks a map of eight bytes, then two for each of 64 cells.
+abbrev pub maxStartBytes : ℕ
+maxStartBytes = 2_176
 
 -- An item count, then 1,024 items of ten bytes: all fields but a queue, and the transition's high byte.
 abbrev pub maxRecordBytes : ℕ

@@ -1,5 +1,5 @@
--- The start of a file is enough: a program and a record of which one byte more than the longest readable one is read are read, or refused, as their
--- whole bytes are, and so the listing is the same.
+-- The front of a file is enough: a program, readings and a record of which one byte more than the longest readable ones is read are read, or refused,
+-- as their whole bytes are, and so the listing is the same.
 use Prim.Native.Nat.{ℕ, suc, _+_, _*_, _≤_}
 use mathlib.Core.Path.{_≡_, refl, ap}
 use mathlib.Core.Bool.{Bool, true, false, _&&_}
@@ -21,14 +21,15 @@ use Rattle.model.specs.ItemKinds.{itemKinds}
 use Rattle.model.specs.Formats.{HasMap, itemMaps}
 use Rattle.model.specs.ItemForms.{FormIs, good, unknown-kind, wrong-map, judgedItemForm}
 use Rattle.model.specs.Records.{field, lowByte, highByte, givenValue, itemFields, readItemIn, readItem, recordReaderIn, recordReader, readRecordIn, readRecord}
-use Rattle.model.specs.Machine.{Start, zeroStart}
 use Rattle.model.specs.Replay.{every}
 use Rattle.model.specs.Checks.{acceptIn, accept}
 use Rattle.model.specs.Listings.{listingIn, listing, printedOf}
 use Rattle.model.proofs.Laws.{decided, bind-cong, between-true}
+use Rattle.model.proofs.Ranges.{header-fits}
 use Rattle.model.proofs.Tables.{everyRow}
 use Rattle.model.proofs.ItemForms.{today-maps, form-is, each-map}
-use Rattle.sizes.specs.Sizes.{maxProgramBytes, maxRecordBytes}
+use Rattle.sizes.specs.Sizes.{maxProgramBytes, maxStartBytes, maxRecordBytes}
+use Rattle.sizes.proofs.Readings.{the-same-start}
 use Rattle.model.proofs.Extents.{transition-takes, number-takes}
 use Rattle.model.proofs.Allowances.{Takes, takes-pure, takes-here, takes-fault, takes-bind, takes-byte, takes-word, takes-judged, takes-tested, cost, takes-optional, takes-times, whole-of-start}
 
@@ -155,15 +156,17 @@ unfolding readRecordIn
 the-same-record header = whole-of-start recordLength maxRecordBytes (record-takes header)
 
 -- The listing.
-module _ (program recorded : List ℕ) where
-  the-same-acceptance : (start : Start) →
-      accept start (take (suc maxProgramBytes) program) (take (suc maxRecordBytes) recorded) ≡ accept start program recorded
+module _ (program start recorded : List ℕ) where
+  the-same-acceptance : accept (take (suc maxProgramBytes) program) (take (suc maxStartBytes) start) (take (suc maxRecordBytes) recorded)
+      ≡ accept program start recorded
   unfolding acceptIn
-  the-same-acceptance start =
+  the-same-acceptance =
       rw (the-same-program program)
-      (bind-cong (readProgram program) _ _ λ P e. rw (the-same-record (P .header) recorded))
+      (bind-cong (readProgram program) _ _ λ P e.
+      rw (the-same-start (P .header) (header-fits program e) start, the-same-record (P .header) recorded))
 
   pub the-same-listing : (memory : List ℕ) →
-      listing (take (suc maxProgramBytes) program) (take (suc maxRecordBytes) recorded) memory ≡ listing program recorded memory
+      listing (take (suc maxProgramBytes) program) (take (suc maxStartBytes) start) (take (suc maxRecordBytes) recorded) memory
+      ≡ listing program start recorded memory
   unfolding listingIn
-  the-same-listing memory = ap (printedOf memory) (the-same-acceptance zeroStart)
+  the-same-listing memory = ap (printedOf memory) the-same-acceptance
