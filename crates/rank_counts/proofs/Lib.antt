@@ -1,7 +1,2 @@
--- Bits of a map in turn, counts of ranks, and the map of the ranks that have one.
-pub mod Numbers
-pub mod RankMaps
-pub mod Rows
+-- Counts of ranks, one rank after the other.
 pub mod Tallies
-pub mod Mapping
-pub mod Gathering

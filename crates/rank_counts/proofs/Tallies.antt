@@ -17,8 +17,8 @@ use Rattle.record_facts.proofs.Rows.{numbers-snoc}
 use Rattle.memory.specs.Tables.{Table, rowOf, Row}
 use Rattle.memory.proofs.Tables.{row-held, row-of-held, row-below}
 use Rattle.memory.proofs.Filled.{numbers-length, numbers-at, list-of}
+use Rattle.marked.proofs.Numbers.{selected-few}
 use Rattle.rank_counts.specs.Tallies.{rankTold, ranksTold, timesIn, tallied}
-use Rattle.rank_counts.proofs.Numbers.{selected-few}
 
 pub tally-none : replicate maxRanks 0 ≡ tallied []
 unfolding tallied select numbersFrom

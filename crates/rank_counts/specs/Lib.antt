@@ -1,4 +1,2 @@
--- What is counted, and the map of the ranks that have a count, by the definitions of `model`.
-pub mod Maps
+-- What is counted, by the definitions of `model`.
 pub mod Tallies
-pub mod Counts

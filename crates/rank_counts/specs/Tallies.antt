@@ -6,7 +6,7 @@ use lib.ListN.{length, getD}
 use Rattle.model.specs.Limits.{maxItems}
 use Rattle.model.specs.Choice.{select, numbersFrom}
 use Rattle.memory.specs.Tables.{Table}
-use Rattle.memory.specs.Copies.{byRank}
+use Rattle.memory.specs.Made.{byRank}
 
 -- The rank that a row of the trail tells: 0 if its item is no command.
 abbrev pub rankTold : Table → (item : ℕ) → ℕ

@@ -8,43 +8,41 @@ use Rattle.model.specs.declared.Refusal.{Refusal}
 use Rattle.model.specs.Refusals as Refusals
 use Rattle.model.specs.Refusals.{Result, ok}
 use Rattle.model.specs.Checks.{Accepted, accept}
-use Rattle.model.specs.Slips.{Lent, lend, slipOf, writeSlipIn, writeSlip}
-use Rattle.memory.specs.Tables.{cellsSize, zeros}
-use Rattle.memory.specs.Copies.{startIn}
-use Rattle.memory.proofs.Stores.{zero-start}
+use Rattle.model.specs.Lending.{Lent, lend, answering}
+use Rattle.model.specs.Slips.{slipOf, writeSlipIn, writeSlip}
 use Rattle.replay.specs.declared.Acceptance as Acceptance
 use Rattle.replay.specs.declared.Acceptance.{Acceptance}
 use Rattle.replay.specs.Handed as Handed
 use Rattle.replay.specs.Handed.{HandsOver}
 use Rattle.replay.proofs.Accepting.{accept-refused, accept-found}
 use Rattle.rank_counts.specs.Tallies.{ranksTold, tallied}
-use Rattle.slips.specs.Answers.{answering}
 use Rattle.slips.specs.Writing.{slipFrom}
 use Rattle.slips.proofs.Commands.{commands-tallied}
 use Rattle.slips.proofs.Writing.{slip-accepted}
 
-module _ (program recorded : List ℕ) {before after : Handed.Lent} {r : Acceptance}
-    (handed : HandsOver (accept (startIn (zeros cellsSize)) program recorded) before after r) (slip : List ℕ) where
-  written : (m : Result Accepted) → accept (startIn (zeros cellsSize)) program recorded ≡ m →
-      lend slip (Refusals._>>=_ m (λ a. ok (slipOf a))) ≡ writeSlip program recorded slip
+module _ (program start recorded : List ℕ) {before after : Handed.Lent} {r : Acceptance}
+    (handed : HandsOver (accept program start recorded) before after r) (slip : List ℕ) where
+  written : {m : Result Accepted} → accept program start recorded ≡ m →
+      lend slip (Refusals._>>=_ m (λ a. ok (slipOf a))) ≡ writeSlip program start recorded slip
   unfolding writeSlipIn
-  written m is =
-      ap (λ n. lend slip (Refusals._>>=_ n (λ a. ok (slipOf a)))) (sym is ∙ ap (λ start. accept start program recorded) zero-start)
+  written is = ap (λ m. lend slip (Refusals._>>=_ m (λ a. ok (slipOf a)))) (sym is)
 
   pub written-refused : {x : Refusal} → r ≡ Acceptance.the-variants.Refused x →
-      answering (Filled.Refused x) slip ≡ writeSlip program recorded slip
+      answering (Filled.Refused x) slip ≡ writeSlip program start recorded slip
   unfolding lend
-  written-refused found = written _ (accept-refused _ handed found)
+  written-refused found = written (accept-refused _ handed found)
 
   pub written-accepted : {header : Header} {items groups : ℕ} → r ≡ Acceptance.the-variants.Accepted header items groups →
       (counts : List ℕ) → counts ≡ tallied (ranksTold items (after .trail)) → {l : Lent} →
       l ≡ lend slip (ok (slipFrom (header .ranks) counts)) →
-      l ≡ writeSlip program recorded slip
+      l ≡ writeSlip program start recorded slip
   written-accepted found counts is wrote =
       let known = accept-found _ handed found in
-      let told = is ∙ ap₂ (λ n trail. tallied (ranksTold n trail)) (known .items-is) (known .trail-is) in
+      let told =
+      is
+      ∙ ap₂ (λ n trail. tallied (ranksTold n trail)) (known .items-is) (known .trail-is)
+      ∙ commands-tallied program start recorded (known .a) (known .is) in
       wrote
-      ∙ ap (λ (h : Header). lend slip (ok (slipFrom (h .ranks) counts))) (known .header-is)
-      ∙ ap (λ s. lend slip (ok s))
-      (sym (slip-accepted _ program recorded (known .a) (known .is) counts (told ∙ commands-tallied _ program recorded (known .a) (known .is))))
-      ∙ written (ok (known .a)) (known .is)
+      ∙ ap₂ (λ (h : Header) l. lend slip (ok (slipFrom (h .ranks) l))) (known .header-is) told
+      ∙ ap (λ s. lend slip (ok s)) (sym (slip-accepted program start recorded (known .a) (known .is)))
+      ∙ written (known .is)

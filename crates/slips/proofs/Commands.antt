@@ -13,25 +13,25 @@ use Rattle.model.specs.declared.Item.{Item}
 use Rattle.model.specs.Limits.{maxRanks, maxItems}
 use Rattle.model.specs.Refusals.{ok, barrierRow, queuesLeft}
 use Rattle.model.specs.Choice.{select, numbersFrom}
-use Rattle.model.specs.Programs.{Program, readProgram}
-use Rattle.model.specs.Records.{readRecord}
+use Rattle.model.specs.Programs.{Program}
 use Rattle.model.specs.Machine.{Start, put}
 use Rattle.model.specs.Replay.{Event, Replay, Taken, Replayed, begin, takeItem, takeItems, quiet, atEnd, replay}
 use Rattle.model.specs.HappensBefore.{isCommand, rankOf}
 use Rattle.model.specs.Traces.{commandOf}
-use Rattle.model.specs.Checks.{Accepted, acceptIn, accept}
+use Rattle.model.specs.Checks.{Accepted, accept}
 use Rattle.model.proofs.Laws.{decided, bind-ok, required, ok-injective}
+use Rattle.model.proofs.Accepted.{accepted-parts}
 use Rattle.model.proofs.Selections.{select-none}
 use Rattle.model.proofs.Replay.{ItemTaken, commands, fetches, delivers, item-taken}
 use Rattle.record_facts.specs.Facts.{countOf}
 use Rattle.record_facts.proofs.Bounds.{accepted-bounds}
 use Rattle.memory.specs.Tables.{zeros}
-use Rattle.memory.specs.Copies.{byRank}
+use Rattle.memory.specs.Made.{byRank}
 use Rattle.memory.proofs.Filled.{list-of}
 use Rattle.graph.proofs.Edges.{filled-at, read-each}
 use Rattle.trails.specs.Trails.{commandRank, rowOfEvent, trailOf, trailSize}
+use Rattle.marked.proofs.Numbers.{selected-few}
 use Rattle.rank_counts.specs.Tallies.{rankTold, ranksTold, timesIn, tallied}
-use Rattle.rank_counts.proofs.Numbers.{selected-few}
 use Rattle.rank_counts.proofs.Tallies.{tally-length, tally-at}
 
 -- One item: a command counts for its rank, and a pop for none.
@@ -94,23 +94,20 @@ and-no true e = e
 and-no false e = refl
 
 -- An accepted record.
-module _ (start : Start) (program recorded : List ℕ) (a : Accepted) (accepted : accept start program recorded ≡ ok a) where
+module _ (program start recorded : List ℕ) (a : Accepted) (accepted : accept program start recorded ≡ ok a) where
   pub commands-counted : (rank : ℕ) → a .run .last .taken rank ≡ countOf rank (a .run .events)
-  unfolding acceptIn
   commands-counted rank =
-      let (P, read, h₁) = bind-ok (readProgram program) _ accepted in
-      let (items, recorded-read, h₂) = bind-ok (readRecord (P .header) recorded) _ h₁ in
-      let (run, replayed, h₃) = bind-ok (replay P start items) _ h₂ in
-      rw (← (ok-injective h₃)) (replay-counted rank P start items replayed)
+      let p = accepted-parts program start recorded a accepted in
+      replay-counted rank (a .program) (a .readings) (p .items) (p .replayed)
 
   pub commands-few : (rank : ℕ) → a .run .last .taken rank ≤ maxItems
   commands-few rank =
-      let few = accepted-bounds start program recorded a accepted .few in
+      let few = accepted-bounds program start recorded a accepted .few in
       omega (arith, few, commands-counted rank, selected-few (commandOf rank) (a .run .events))
 
   pub commands-none : (rank : ℕ) → a .program .header .ranks < rank → a .run .last .taken rank ≡ 0
   commands-none rank above =
-      let bounds = accepted-bounds start program recorded a accepted .bounds in
+      let bounds = accepted-bounds program start recorded a accepted .bounds in
       commands-counted rank
       ∙ ap length
       (select-none (commandOf rank) (a .run .events)
@@ -123,7 +120,7 @@ module _ (start : Start) (program recorded : List ℕ) (a : Accepted) (accepted 
   unfolding ranksTold
   told-ranks =
       let events = a .run .events in
-      let few = accepted-bounds start program recorded a accepted .few in
+      let few = accepted-bounds program start recorded a accepted .few in
       ap (λ n. map (rankTold (trailOf events)) (numbersFrom 0 n)) (min-eq-left few)
       ∙ read-each (λ e. commandRank (e .item)) (rankTold (trailOf events)) 0 events
       (λ i e at.

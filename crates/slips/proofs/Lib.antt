@@ -1,10 +1,9 @@
+-- Writer and reader are the definition's, and what is written is read back, from no other bytes.
 pub mod Commands
 pub mod Writing
 pub mod Lending
 pub mod Putting
 pub mod Accepting
 pub mod Reading
-pub mod Turns
-pub mod Answering
 pub mod RoundTrip
 pub mod SlipTheorems

@@ -12,16 +12,15 @@ use Rattle.model.specs.declared.Filled.the-variants.{Entries, Refused}
 use Rattle.model.specs.Limits.{byteRanks, byteValues}
 use Rattle.model.specs.Refusals.{ok, memoryTooShort}
 use Rattle.model.specs.Checks.{fill, entryBytes}
-use Rattle.model.specs.Slips.{lend}
+use Rattle.model.specs.Lending.{lend, answering}
 use Rattle.lists.specs.Written.{wordsWritten}
 use Rattle.lists.proofs.Results.{group-words-written}
-use Rattle.rank_counts.specs.Maps.{mapLength, slipLength}
-use Rattle.rank_counts.specs.Counts.{noCounts, mapOf, countsOf}
-use Rattle.rank_counts.proofs.Mapping.{map-small, map-length-some, counts-ones}
-use Rattle.slips.specs.Answers.{answering}
-use Rattle.slips.specs.Writing.{mapWritten, slipFrom}
-use Rattle.slips.proofs.Lending.{lends, lends-nothing}
-use Rattle.slips.proofs.Writing.{written-length, slip-length}
+use Rattle.marked.specs.Maps.{noValues}
+use Rattle.marking.specs.Marking.{mapOf, valuesOf}
+use Rattle.marking.proofs.Writing.{map-small, values-ones}
+use Rattle.slips.specs.Writing.{mapLength, slipLength, mapWritten, slipFrom}
+use Rattle.model.proofs.Lending.{lends, lends-nothing}
+use Rattle.slips.proofs.Writing.{map-length-some, written-length, slip-length}
 
 -- The part behind a front: what it is, and that the front stays where it is changed.
 module _ (front rest : List ℕ) {behind : ℕ} (long : length front ≡ behind) where
@@ -54,7 +53,7 @@ module _ (ranks : ℕ) (slip : List ℕ) (room : mapLength ranks ≤ length slip
 
 module _ (ranks mapped : ℕ) where
   pub wide-put : byteRanks < ranks → (slip : List ℕ) → mapLength ranks ≤ length slip →
-      set (set slip 0 (mapped / byteValues)) 1 (mapped % byteValues) ≡ fill (mapWritten ranks mapped) slip
+      set (set slip 0 (mapped / byteValues % byteValues)) 1 (mapped % byteValues) ≡ fill (mapWritten ranks mapped) slip
   unfolding fill mapWritten
   wide-put wide [] room = absurd (omega (arith, second-room ranks [] room wide))
   wide-put wide (x ∷ []) room = absurd (omega (arith, second-room ranks (x ∷ []) room wide))
@@ -100,13 +99,13 @@ module _ (ranks : ℕ) (counts : List ℕ) {map needed : ℕ} (is : map ≡ mapO
       pub counts-room : behind ≤ length mapped
       counts-room = omega (arith, mapped-long, behind-is, map-room)
 
-      pub slip-put : {listed part : List ℕ} {count : ℕ} → listed ≡ fill (countsOf map counts) noCounts → count ≡ ones map →
+      pub slip-put : {listed part : List ℕ} {count : ℕ} → listed ≡ fill (valuesOf map counts) noValues → count ≡ ones map →
           part ≡ wordsWritten (midOf behind (length mapped - behind) mapped) 0 listed count →
           answering (Entries needed) (putMid behind (length mapped - behind) mapped part) ≡ lend slip (ok (slipFrom ranks counts))
       unfolding slipFrom rest
       slip-put {listed} {part} {count} listed-is count-is part-written =
-          let counted : count ≡ length (countsOf map counts) = count-is ∙ sym (counts-ones map counts (rw is (map-small counts))) in
-          let enough : length (countsOf map counts) * 2 ≤ length rest =
+          let counted : count ≡ length (valuesOf map counts) = count-is ∙ sym (values-ones map counts (rw is (map-small counts))) in
+          let enough : length (valuesOf map counts) * 2 ≤ length rest =
           omega (arith, length-drop (length (mapWritten ranks map)) slip, front, behind-is, long, room, counted, count-is) in
           let numbers = part-written ∙ ap₂ (λ bytes numbers. wordsWritten bytes 0 numbers count)
           (ap (λ l. midOf behind (length l - behind) l) mapped-is ∙ part-is (mapWritten ranks map) rest front) listed-is in
@@ -114,7 +113,7 @@ module _ (ranks : ℕ) (counts : List ℕ) {map needed : ℕ} (is : map ≡ mapO
           (ap (λ l. putMid behind (length l - behind) l part) mapped-is
           ∙ part-put (mapWritten ranks map) rest front part
           ∙ ap (λ l. mapWritten ranks map ++ l)
-          (numbers ∙ group-words-written (countsOf map counts) rest noCounts count counted (omega (arith, enough)))
-          ∙ fill-behind (mapWritten ranks map) (entryBytes (countsOf map counts)) slip
-          ∙ ap (λ m. fill (mapWritten ranks m ++ entryBytes (countsOf m counts)) slip) is)
+          (numbers ∙ group-words-written (valuesOf map counts) rest noValues count counted (omega (arith, enough)))
+          ∙ fill-behind (mapWritten ranks map) (entryBytes (valuesOf map counts)) slip
+          ∙ ap (λ m. fill (mapWritten ranks m ++ entryBytes (valuesOf m counts)) slip) is)
           ∙ lends slip (slipFrom ranks counts) (sym needed-is) room

@@ -1,9 +1,16 @@
 // The slip of a run: how many command items each rank has, written as bytes and read back.
+mod lengths;
 mod reader;
 
-use crate::reader::counts_in;
+use crate::lengths::map_length;
+use crate::lengths::slip_length;
+use crate::reader::read_counts;
 use lists::write_numbers;
 use lists::write_words;
+use marked::reader::Ended;
+use marking::map_of;
+use marking::ones_in;
+use marking::values_of;
 use model::BYTE_RANKS;
 use model::CELLS;
 use model::Filled;
@@ -13,33 +20,27 @@ use model::REGISTERS;
 use model::Refusal;
 use model::TOLD;
 use model::refusals::MEMORY_TOO_SHORT;
-use rank_counts::Counts;
-use rank_counts::counts::command_counts;
-use rank_counts::counts::counts_of;
-use rank_counts::maps::map_length;
-use rank_counts::maps::map_of;
-use rank_counts::maps::ranks_in;
-use rank_counts::maps::slip_length;
+use model::refusals::SLIP_FORM;
+use rank_counts::command_counts;
 use replay::Acceptance;
 use replay::replay;
 ghost use mathlib.Core.Path.{_≡_};
 ghost use Prim.Native.Nat.{_≤_};
-ghost use lib.ListN.{length};
+ghost use lib.ListN.{length, take};
 ghost use Rattle.model.specs.Checks.{fill};
 ghost use Rattle.model.specs.Refusals.{ok};
-ghost use Rattle.model.specs.Slips.{lend, writeSlip, readSlip};
-ghost use Rattle.slips.specs.Answers.{answering};
-ghost use Rattle.rank_counts.specs.Maps.{mapLength};
-ghost use Rattle.slips.specs.Writing.{mapWritten, slipFrom};
+ghost use Rattle.model.specs.Lending.{lend, answering};
+ghost use Rattle.model.specs.Slips.{writeSlip, readSlip};
+ghost use Rattle.slips.specs.Writing.{mapLength, mapWritten, slipFrom};
 
 // The map at the front: "two bytes if N is above 8 and one otherwise".
-fn write_map(slip: &mut [u8], ranks: u16, map: u16)
+fn write_map(slip: &mut [u8], ranks: u16, map: u64)
     requires { ⌜ mapLength ranks ≤ length (now slip) ⌝ }
     ensures { λ r. ⌜ now (slip .exit) ≡ fill (mapWritten ranks map) (now (slip .entry)) ⌝ }
 {
     let low = (map % 256) as u8;
     if BYTE_RANKS < ranks {
-        slip[0] = (map / 256) as u8;
+        slip[0] = (map / 256 % 256) as u8;
         slip[1] = low;
     } else {
         slip[0] = low;
@@ -47,7 +48,7 @@ fn write_map(slip: &mut [u8], ranks: u16, map: u16)
 }
 
 // The slip of these counts for N ranks, where there is room for all of it.
-fn write_counts(counts: &Counts, ranks: u16, slip: &mut [u8]) -> Filled
+fn write_counts(counts: &[u16], ranks: u16, slip: &mut [u8]) -> Filled
     ensures { λ r. ⌜ answering r (now (slip .exit)) ≡ lend (now (slip .entry)) (ok (slipFrom ranks (now (counts .entry)))) ⌝ }
 {
     let map = map_of(counts);
@@ -58,17 +59,18 @@ fn write_counts(counts: &Counts, ranks: u16, slip: &mut [u8]) -> Filled
             place: needed,
         });
     }
-    let listed = counts_of(map, counts);
+    let listed = values_of(map, counts);
     let behind = map_length(ranks);
     write_map(slip, ranks, map);
-    write_words(&mut slip[behind..], 0, &listed, ranks_in(map));
+    write_words(&mut slip[behind..], 0, &listed, ones_in(map));
     Filled::Entries(needed)
 }
 
-// Writes the slip of an accepted record: "a .. map of ranks that have a command item .. then for each a two-byte count of those items". Program and
-// record are refused as the check refuses them, and nothing is written then, nor where the lent bytes are too few.
-pub fn write_slip(program: &[u8], recorded: &[u8], slip: &mut [u8]) -> Filled
-    ensures { λ r. ⌜ answering r (now (slip .exit)) ≡ writeSlip (now (program .entry)) (now (recorded .entry)) (now (slip .entry)) ⌝ }
+// Writes the slip of an accepted record: "a .. map of ranks that have a command item .. then for each a two-byte count of those items". Program,
+// start and record are refused as the check refuses them, and nothing is written then, nor where the lent bytes are too few.
+pub fn write_slip(program: &[u8], start: &[u8], recorded: &[u8], slip: &mut [u8]) -> Filled
+    ensures { λ r. ⌜ answering r (now (slip .exit))
+        ≡ writeSlip (now (program .entry)) (now (start .entry)) (now (recorded .entry)) (now (slip .entry)) ⌝ }
 {
     let mut control = [0; RANKS];
     let mut registers = [[0; REGISTERS]; RANKS];
@@ -76,6 +78,7 @@ pub fn write_slip(program: &[u8], recorded: &[u8], slip: &mut [u8]) -> Filled
     let mut trail = [[0; TOLD]; ITEMS];
     match replay(
         program,
+        start,
         recorded,
         &mut control,
         &mut registers,
@@ -94,23 +97,45 @@ pub fn write_slip(program: &[u8], recorded: &[u8], slip: &mut [u8]) -> Filled
     }
 }
 
-// Reads a slip for N ranks: each rank's count fills its entry, 0 for a rank without a bit. A slip that is not right is refused before a list that is
-// too short, and nothing is written then.
-pub fn read_slip(ranks: u16, slip: &[u8], counts: &mut [u16]) -> Filled
-    ensures { λ r. ⌜ answering r (now (counts .exit)) ≡ readSlip ranks (now (slip .entry)) (now (counts .entry)) ⌝ }
+// The first `needed` values, where the list has room for them.
+fn fill_counts(counts: &mut [u16], values: &[u16], needed: usize) -> Filled
+    requires { ⌜ needed ≤ length (now values) ⌝ }
+    ensures { λ r. ⌜ answering r (now (counts .exit)) ≡ lend (now (counts .entry)) (ok (take needed (now (values .entry)))) ⌝ }
 {
-    let read = counts_in(slip, ranks);
-    let answer = read.answer;
-    let found = read.counts;
-    let Filled::Entries(needed) = answer else {
-        return answer;
-    };
     if counts.len() < needed {
         return Filled::Refused(Refusal {
             number: MEMORY_TOO_SHORT,
             place: needed,
         });
     }
-    write_numbers(counts, 0, &found, needed);
-    answer
+    write_numbers(counts, 0, values, needed);
+    Filled::Entries(needed)
+}
+
+// Reads a slip for N ranks: each rank's count fills its entry, 0 for a rank without a bit. "N outside 1..8 .. is 16 at byte 0"; document 02, #105:
+// "The reader takes N 1..16." A slip that is not right is refused before a list that is too short, and nothing is written then.
+pub fn read_slip(ranks: u16, slip: &[u8], counts: &mut [u16]) -> Filled
+    ensures { λ r. ⌜ answering r (now (counts .exit)) ≡ readSlip ranks (now (slip .entry)) (now (counts .entry)) ⌝ }
+{
+    if ranks < 1 || ranks as usize > RANKS {
+        return Filled::Refused(Refusal {
+            number: SLIP_FORM,
+            place: 0,
+        });
+    }
+    let read = read_counts(slip, ranks);
+    let ended = read.ended;
+    let values = read.values;
+    match ended {
+        Ended::Refused(refusal) => Filled::Refused(refusal),
+        Ended::At(end) => {
+            if end != slip.len() {
+                return Filled::Refused(Refusal {
+                    number: SLIP_FORM,
+                    place: end,
+                });
+            }
+            fill_counts(counts, &values, ranks as usize)
+        }
+    }
 }

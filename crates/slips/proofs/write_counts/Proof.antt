@@ -14,7 +14,7 @@ write-map-requires : tie.Need-write-map-requires
 write-map-requires c κs =
     let atListed = c .before .before in
     let atLength = atListed .before .before in
-    let given = atLength .before .before .before .args in
+    let given = atLength .before .before .before .before .args in
     map-room (given .ranks) _ (atLength .before .map-of .ensures) (atLength .slip-length .ensures) (given .slip .now) (atListed .before .if1 .left)
 
 sub-write-words : tie.Need-sub-write-words
@@ -47,7 +47,7 @@ returns-2 c =
     let atListed = atBehind .before in
     let atLength = atListed .before .before in
     slip-put _ _ (atLength .before .map-of .ensures) (atLength .slip-length .ensures) _ (atListed .before .if1 .left)
-    (atBehind .map-length .ensures) (atMapped .write-map .ensures) (atListed .counts-of .ensures) (atCount .ranks-in .ensures)
+    (atBehind .map-length .ensures) (atMapped .write-map .ensures) (atListed .values-of .ensures) (atCount .ones-in .ensures)
     (atWritten .write-words .ensures)
 
 pub write-counts-spec : {M : Type 1} → statement M

@@ -8,7 +8,7 @@ returns : tie.Need-returns
 returns c =
     let atFound = c .before in
     let atReplay = atFound .before .before in
-    written-refused _ _ (atReplay .replay .ensures) _ (atFound .refusal .given .1)
+    written-refused _ _ _ (atReplay .replay .ensures) _ (atFound .refusal .given .1)
 
 returns-2 : tie.Need-returns-2
 returns-2 c =
@@ -16,7 +16,7 @@ returns-2 c =
     let atCounts = atWritten .before .before .before in
     let atFound = atCounts .before .before .before in
     let atReplay = atFound .before .before in
-    written-accepted _ _ (atReplay .replay .ensures) _ (atFound .header .given .1) _ (atCounts .command-counts .ensures)
+    written-accepted _ _ _ (atReplay .replay .ensures) _ (atFound .header .given .1) _ (atCounts .command-counts .ensures)
     (atWritten .write-counts .ensures)
 
 pub write-slip-spec : {M : Type 1} → statement M
@@ -27,6 +27,7 @@ write-slip-spec =
     (λ c. search needs)
     (λ c. search needs)
     (λ c κs. search needs)
+    (λ c. search needs)
     (λ c κs. search needs)
     returns
     (λ c. search needs)
