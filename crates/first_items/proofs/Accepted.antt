@@ -11,13 +11,13 @@ use Rattle.model.specs.declared.Header.{Header}
 use Rattle.model.specs.declared.Item.{Item}
 use Rattle.model.specs.Limits.{maxItems}
 use Rattle.model.specs.Refusals.{ok, barrierRow, queuesLeft}
-use Rattle.model.specs.Programs.{Program, readProgram}
-use Rattle.model.specs.Records.{readRecord}
+use Rattle.model.specs.Programs.{Program}
 use Rattle.model.specs.Machine.{Start}
 use Rattle.model.specs.Replay.{Event, Replay, Taken, Replayed, takeItem, takeItems, begin, quiet, atEnd, replay}
-use Rattle.model.specs.Checks.{Accepted, acceptIn, accept}
+use Rattle.model.specs.Checks.{Accepted, accept}
 use Rattle.model.proofs.Laws.{bind-ok, required, ok-injective}
 use Rattle.model.proofs.Replay.{ItemTaken, commands, fetches, delivers, item-taken}
+use Rattle.model.proofs.Accepted.{accepted-parts}
 use Rattle.memory.specs.Tables.{zeros}
 use Rattle.graph.proofs.Edges.{filled-at}
 use Rattle.record.specs.Places.{ItemsFrom, firstItem}
@@ -69,17 +69,11 @@ run-items P start items h =
     let queues = required (quiet P (r .last .machine)) queuesLeft (length items) _ (row .1) in
     rw (← (ok-injective (queues .1))) (taken-items P (begin start) 0 items taken)
 
-pub accepted-firsts : (start : Start) (program recorded : List ℕ) (a : Accepted) → accept start program recorded ≡ ok a → (g : ℕ) → g < maxItems →
+pub accepted-firsts : (program start recorded : List ℕ) (a : Accepted) → accept program start recorded ≡ ok a → (g : ℕ) → g < maxItems →
     let h = a .program .header in
     firstOf h recorded (firstItems h recorded (trailOf (a .run .events)) (length (a .run .events))) g ≡ firstIn g 0 (a .run .events)
-unfolding acceptIn
-accepted-firsts start program recorded a h g row =
-    let few = accepted-bounds start program recorded a h .few in
-    let (P, read, h₁) = bind-ok (readProgram program) _ h in
-    let (items, recorded-read, h₂) = bind-ok (readRecord (P .header) recorded) _ h₁ in
-    let (run, replayed, h₃) = bind-ok (replay P start items) _ h₂ in
-    let same = ok-injective h₃ in
-    let events-few : length (run .events) ≤ maxItems = rw (ap (λ (x : Accepted). length (x .run .events)) same) few in
-    rw (← same)
-    (run-firsts (P .header) recorded (run .events) (record-items (P .header) recorded recorded-read .items-from) (run-items P start items replayed)
-    events-few g row)
+accepted-firsts program start recorded a h g row =
+    let few = accepted-bounds program start recorded a h .few in
+    let p = accepted-parts program start recorded a h in
+    run-firsts (a .program .header) recorded (a .run .events) (record-items (a .program .header) recorded (p .record-read) .items-from)
+    (run-items (a .program) (a .readings) (p .items) (p .replayed)) few g row

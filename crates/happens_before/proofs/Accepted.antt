@@ -10,7 +10,7 @@ use Rattle.model.specs.declared.Header.{Header}
 use Rattle.model.specs.Limits.{maxItems}
 use Rattle.model.specs.Refusals.{ok}
 use Rattle.model.specs.Programs.{HeaderFits}
-use Rattle.model.specs.Machine.{Start, Access}
+use Rattle.model.specs.Machine.{Access}
 use Rattle.model.specs.Replay.{Event, Replayed}
 use Rattle.model.specs.HappensBefore.{edgesOf}
 use Rattle.model.specs.Checks.{Accepted, accept}
@@ -60,9 +60,9 @@ bounds-tellable run fits few b =
       opened = omega (arith, b .most);
     }
 
-pub accepted-tellable : (start : Start) (program recorded : List ℕ) (a : Accepted) → accept start program recorded ≡ ok a → TellableRun (a .run)
-accepted-tellable start program recorded a h =
-    let b = accepted-bounds start program recorded a h in bounds-tellable (a .run) (b .header) (b .few) (b .bounds)
+pub accepted-tellable : (program start recorded : List ℕ) (a : Accepted) → accept program start recorded ≡ ok a → TellableRun (a .run)
+accepted-tellable program start recorded a h =
+    let b = accepted-bounds program start recorded a h in bounds-tellable (a .run) (b .header) (b .few) (b .bounds)
 
 module _ {run : Replayed} (t : TellableRun run) where
   -- What its trail tells has the run's arrows.

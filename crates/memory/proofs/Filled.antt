@@ -6,11 +6,11 @@ use native.Mathlib.Nat.{not-suc-le-zero, add-zero}
 use native.Mathlib.Omega.{arith}
 use lib.ListN.{length, getD, set, length-map}
 use lib.Seq.{drop-length, ext-getD}
-use Rattle.model.specs.Limits.{maxRanks, maxCells}
+use Rattle.model.specs.Limits.{maxRanks}
 use Rattle.model.specs.Choice.{numbersFrom}
 use Rattle.model.specs.Checks.{fill}
-use Rattle.memory.specs.Tables.{Table, Size, Row, rowOf, cellsSize}
-use Rattle.memory.specs.Copies.{numbersIn, byRank, tableOf, startIn, copied}
+use Rattle.memory.specs.Tables.{Table, Size, Row, rowOf}
+use Rattle.memory.specs.Made.{byRank, tableOf}
 use Rattle.memory.specs.Tied.{Controls, Below}
 use Rattle.memory.proofs.Tables.{row-of-held, row-below, number-inside, control-inside}
 
@@ -143,23 +143,3 @@ module _ (size : Size) (f : ℕ → ℕ → ℕ) where
     where
       row : ℕ → List ℕ
       row number = map (f number) (numbersFrom 0 (size .width))
-
--- A copy of lent cells holds the start that the lent cells hold.
-pub copied-holds : (cells : Table) → Below cellsSize (copied cells) (startIn cells)
-copied-holds cells = made-holds cellsSize (startIn cells)
-
--- The copied row is the start's.
-pub row-copied : (cells : Table) (row : ℕ) → row < maxRanks →
-    numbersIn maxCells (getD cells row []) ≡ map (startIn cells (1 + row)) (numbersFrom 0 maxCells)
-row-copied cells row h =
-    list-of (startIn cells (1 + row)) 0 maxCells 0 (numbersIn maxCells (getD cells row []))
-    (length-map (numbersFrom 0 maxCells) held ∙ numbers-length 0 maxCells)
-    (λ i b.
-    let z : 0 + i ≡ i = omega arith in
-    numbers-at held 0 maxCells i 0 b
-    ∙ ap held z
-    ∙ number-inside cellsSize cells (1 + row) row (sym (number-row maxRanks row h)) i h b
-    ∙ ap (startIn cells (1 + row)) (sym z))
-  where
-    held : ℕ → ℕ
-    held i = getD (getD cells row []) i 0

@@ -1,6 +1,6 @@
 -- What a store into a table changes: one number of one row. The table's function afterwards is the function with one value put.
 use Prim.Native.Nat.{ℕ, _-_, _<_}
-use mathlib.Core.Path.{_≡_, refl, ap, sym, fun-ext, _∙_, subst}
+use mathlib.Core.Path.{_≡_, refl, ap, sym, _∙_, subst}
 use mathlib.Core.Logic.{_≢_}
 use mathlib.Core.Bool.{true, false, _&&_, false≢true}
 use mathlib.Core.List.{[]}
@@ -9,10 +9,9 @@ use lib.Dec.{ltb, eqb}
 use lib.ListN.{length, getD, set, replicate, length-set, length-replicate, getD-replicate}
 use lib.Seq.{getD-set-same, getD-set-other, set-out}
 use borrow.Author.Tests.{ltb-true, ltb-false, eq-eqb, eqb-true, eqb-false}
-use Rattle.model.specs.Machine.{zeroStart, put₂}
+use Rattle.model.specs.Machine.{put₂}
 use Rattle.model.proofs.Laws.{decided, and-true, true-and, put₂-same, put₂-other}
-use Rattle.memory.specs.Tables.{Table, Size, Row, rowOf, numberAt, stored, Shaped, zeros, cellsSize}
-use Rattle.memory.specs.Copies.{startIn}
+use Rattle.memory.specs.Tables.{Table, Size, Row, rowOf, numberAt, stored, Shaped, zeros}
 use Rattle.memory.proofs.Tables.{row-of-held, row-below, row-held, number-inside, number-beyond}
 use Rattle.memory.proofs.Tables.{number-outside, stored-inside, stored-beyond, stored-outside}
 
@@ -134,8 +133,3 @@ module _ (size : Size) where
       (getD-replicate (size .width) index 0 0 b))
       (λ u. sym (number-beyond size (zeros size) number _ refl index (ltb-false index (size .width) u))))
       (λ t. sym (number-outside size (zeros size) number _ refl index (ltb-false (rowOf (size .rows) number) (size .rows) t)))
-
--- "cells and registers start at 0": what cleared cells hold.
-pub zero-start : startIn (zeros cellsSize) ≡ zeroStart
-unfolding zeroStart
-zero-start = fun-ext λ rank. fun-ext λ cell. zeros-number cellsSize rank cell

@@ -1,3 +1,3 @@
 pub mod Tables
-pub mod Copies
+pub mod Made
 pub mod Tied

@@ -8,7 +8,7 @@ use Rattle.model.specs.declared.Refusal.{Refusal}
 use Rattle.model.specs.Refusals.{Result, ok, refused}
 use Rattle.model.specs.Checks.{Accepted}
 use Rattle.memory.specs.Tables.{cellsSize}
-use Rattle.memory.specs.Copies.{tableOf}
+use Rattle.memory.specs.Made.{tableOf}
 use Rattle.replay.specs.declared.Acceptance as Acceptance
 use Rattle.replay.specs.declared.Acceptance.{Acceptance}
 use Rattle.trails.specs.Trails.{trailOf}

@@ -1,6 +1,6 @@
 -- The whole replay: what the arrays hold before it, what each of its ends answers, and what it hands over.
-use Prim.Native.Nat.{ℕ, _≤_}
-use mathlib.Core.Path.{_≡_, refl, sym, ap, _∙_}
+use Prim.Native.Nat.{ℕ}
+use mathlib.Core.Path.{_≡_, refl, sym, ap, subst, _∙_}
 use mathlib.Core.Bool.{true, false}
 use mathlib.Core.List.{List, []}
 use native.Mathlib.Omega.{arith}
@@ -18,9 +18,9 @@ use Rattle.model.specs.Replay.{begin, takeItems, Replayed, quiet, replay, atEnd
 use Rattle.model.specs.Checks.{Accepted, fill}
 use Rattle.memory.specs.Tables.{Table, zeros, registersSize, cellsSize}
 use Rattle.memory.specs.Tied.{Whole, Below}
-use Rattle.memory.specs.Copies.{startIn, copied}
+use Rattle.memory.specs.Made.{tableOf}
 use Rattle.memory.proofs.Tied.{controls-zeros, holds-zeros}
-use Rattle.memory.proofs.Filled.{by-rank, table-is, copied-holds}
+use Rattle.memory.proofs.Filled.{by-rank, table-is, made-holds}
 use Rattle.entries.specs.Entries.{poolSize}
 use Rattle.links.specs.Lists.{endsSize}
 use Rattle.queues.specs.Endings.{allEmpty}
@@ -34,16 +34,17 @@ use Rattle.runs.specs.declared.Ran as Ran
 use Rattle.runs.specs.declared.Ran.{Ran}
 use Rattle.trails.specs.Trails.{trailSize}
 use Rattle.runs.specs.Items.{RunState, itemsOn, begun, RunsAs}
+use Rattle.step.specs.Standing.{Loaded}
 use Rattle.replay.specs.Handed.{Readable, Lent, lent, HandsOver, acceptItems}
 use Rattle.runs.proofs.Simulation.{Reached, Together, together, events-counted}
 
--- The arrays as they are made, over a copy of the lent cells.
-abbrev pub made : (copy : Table) → Memory
-made copy = memory (replicate maxRanks 0) (zeros registersSize) copy (zeros poolSize) (zeros endsSize)
+-- The arrays as they are made, over the cells at the start.
+abbrev pub made : (cells : Table) → Memory
+made cells = memory (replicate maxRanks 0) (zeros registersSize) cells (zeros poolSize) (zeros endsSize)
 
-made-reached : (cells copy : Table) → copy ≡ copied cells → Reached [] (begun (made copy) (zeros trailSize)) (begin (startIn cells))
+made-reached : (start : Start) (cells : Table) → cells ≡ tableOf cellsSize start → Reached [] (begun (made cells) (zeros trailSize)) (begin start)
 unfolding begin initial fill
-made-reached cells copy e =
+made-reached start cells e =
     record {
       stands =
           record {
@@ -51,7 +52,7 @@ made-reached cells copy e =
                 record {
                   controls = controls-zeros;
                   registers = holds-zeros registersSize;
-                  cells = rw e (copied-holds cells);
+                  cells = rw e (made-holds cellsSize start);
                   queues = cleared;
                 };
             opened = refl;
@@ -78,7 +79,7 @@ module _ (P : Program) (start : Start) (items : List Item) where
     queues-left t u = rw (h, t, u)
 
     accepts : eqb (r .last .row) 0 ≡ true → quiet P (r .last .machine) ≡ true →
-        acceptItems P start items ≡ ok (record { program = P; run = r })
+        acceptItems P start items ≡ ok (record { program = P; readings = start; run = r })
     unfolding acceptItems replay atEnd
     accepts t u = rw (h, t, u)
 
@@ -120,30 +121,37 @@ module _ (after : Memory) (trail : Table) (ran : Ran) where
   ran-ended (refused x) (ok s) t runs p e = absurd t
 
 -- The ends of the code's replay, each with the definition's. `after` is what the arrays hold where the items end.
-module _ {program starts : List ℕ} {header : Header} {recorded : List ℕ} {count : ℕ} (given : Readable program starts header recorded count)
-    (cells copy : Table) (copies : copy ≡ copied cells) (after : Memory) (trail : Table) (ran : Ran)
-    (runs : RunsAs (itemsOn program starts header recorded count firstItem (begun (made copy) (zeros trailSize))) after trail ran) (before : Lent) where
+module _ {program starts : List ℕ} {header : Header} {cells : Table} {recorded : List ℕ} {count : ℕ}
+    (given : Readable program starts header cells recorded count) (after : Memory) (trail : Table) (ran : Ran)
+    (runs : RunsAs (itemsOn program starts header recorded count firstItem (begun (made cells) (zeros trailSize))) after trail ran) (before : Lent) where
+  abbrev P : Program
+  P = given .begun .P
+
+  abbrev loaded : Loaded program starts header P
+  loaded = given .begun .loaded
+
   abbrev start : Start
-  start = startIn cells
+  start = given .begun .readings
 
   abbrev accepted : Result Accepted
-  accepted = acceptItems (given .P) start (given .items)
+  accepted = acceptItems P start (given .items)
 
   abbrev taken : Result Replayed
-  taken = takeItems (given .P) (begin start) 0 (given .items)
+  taken = takeItems P (begin start) 0 (given .items)
 
   abbrev n : Result RunState
-  n = itemsOn program starts header recorded count firstItem (begun (made copy) (zeros trailSize))
+  n = itemsOn program starts header recorded count firstItem (begun (made cells) (zeros trailSize))
 
   t : Together [] taken n
   t =
-      rw (← given .counted)
-      (together (given .P) program starts header recorded (given .loaded) [] (begun (made copy) (zeros trailSize)) (begin start) (given .from)
-      (omega (arith, given .few, given .counted)) (made-reached cells copy copies))
+      subst (λ count. Together [] taken (itemsOn program starts header recorded count firstItem (begun (made cells) (zeros trailSize))))
+      (given .counted)
+      (together P program starts header recorded loaded [] (begun (made cells) (zeros trailSize)) (begin start) (given .from)
+      (omega (arith, given .few, given .counted)) (made-reached start cells (given .begun .table)))
 
   pub items-refused : (x : Refusal) → ran ≡ Ran.the-variants.Refused x → HandsOver accepted before before (Acceptance.the-variants.Refused x)
   items-refused x e =
-      refuses accepted before (accepts-none (given .P) start (given .items) (ran-refused after trail ran taken n t runs x e))
+      refuses accepted before (accepts-none P start (given .items) (ran-refused after trail ran taken n t runs x e))
 
   module _ (p : Progress) (e : ran ≡ Ran.the-variants.Ended p) where
     at-count : (number : ℕ) → accepted ≡ refused (record { number = number; place = length (given .items) }) →
@@ -155,24 +163,24 @@ module _ {program starts : List ℕ} {header : Header} {recorded : List ℕ} {co
     items-open waits =
         let (r, all, reached) = ran-ended after trail ran taken n t runs p e in
         at-count barrierRow
-        (row-open (given .P) start (given .items) all (rw (reached .stands .row) (ne-eqb (p .row) 0 waits)))
+        (row-open P start (given .items) all (rw (reached .stands .row) (ne-eqb (p .row) 0 waits)))
 
     module _ (closed : p .row ≡ 0) where
       no-row : (r : Replayed) → r .last .row ≡ p .row → eqb (r .last .row) 0 ≡ true
       no-row r same = rw same (eq-eqb (p .row) 0 closed)
 
       told : (r : Replayed) → Step.Standing after p (r .last) →
-          quiet (given .P) (r .last .machine) ≡ allEmpty (after .queues .ends) (header .ranks) (header .queues)
+          quiet P (r .last .machine) ≡ allEmpty (after .queues .ends) (header .ranks) (header .queues)
       told r stands =
-          quiet-told (given .P) (r .last .machine) (stands .holds .queues) (rw (given .loaded .same) (given .loaded .fits .ranksFit)) (rw (given .loaded .same) (given .loaded .fits .queuesFit))
-          ∙ ap (λ (h : Header). allEmpty (after .queues .ends) (h .ranks) (h .queues)) (given .loaded .same)
+          quiet-told P (r .last .machine) (stands .holds .queues) (rw (loaded .same) (loaded .fits .ranksFit)) (rw (loaded .same) (loaded .fits .queuesFit))
+          ∙ ap (λ (h : Header). allEmpty (after .queues .ends) (h .ranks) (h .queues)) (loaded .same)
 
       pub items-left : allEmpty (after .queues .ends) (header .ranks) (header .queues) ≡ false →
           HandsOver accepted before before (Acceptance.the-variants.Refused (record { number = queuesLeft; place = count }))
       items-left left =
           let (r, all, reached) = ran-ended after trail ran taken n t runs p e in
           at-count queuesLeft
-          (queues-left (given .P) start (given .items) all (no-row r (reached .stands .row)) (told r (reached .stands) ∙ left))
+          (queues-left P start (given .items) all (no-row r (reached .stands .row)) (told r (reached .stands) ∙ left))
 
       pub items-accepted : allEmpty (after .queues .ends) (header .ranks) (header .queues) ≡ true →
           HandsOver accepted before
@@ -181,9 +189,9 @@ module _ {program starts : List ℕ} {header : Header} {recorded : List ℕ} {co
       items-accepted none-left =
           let (r, all, reached) = ran-ended after trail ran taken n t runs p e in
           let stands = reached .stands in
-          rw (accepts (given .P) start (given .items) all (no-row r (stands .row)) (told r stands ∙ none-left))
+          rw (accepts P start (given .items) all (no-row r (stands .row)) (told r stands ∙ none-left))
           (record {
-            answers = same-answer (sym (given .loaded .same)) (sym (events-counted (given .P) (begin start) 0 (given .items) all ∙ given .counted)) (sym (stands .opened));
+            answers = same-answer (sym (loaded .same)) (sym (events-counted P (begin start) 0 (given .items) all ∙ given .counted)) (sym (stands .opened));
             leaves =
                 same-lent
                 (by-rank (r .last .machine .control) (after .control) (stands .holds .controls))

@@ -1,10 +1,9 @@
--- `replay`: program and record are refused as the definition refuses them, or the items are replayed.
-use mathlib.Core.Path.{_≡_, sym, _∙_}
+-- `replay`: program and start are refused as the definition refuses them, or the record is replayed.
+use mathlib.Core.Path.{sym, _∙_}
 use borrow.Author.Needs.{needs}
 use Rattle.program.proofs.Programs.{readable, unreadable}
-use Rattle.record.proofs.Places.{record-items, readable-items}
 use Rattle.replay.proofs.Handed.{refuses}
-use Rattle.replay.proofs.Reading.{program-refused, record-refused, record-read, record-unreadable, both-read, placed-loaded}
+use Rattle.replay.proofs.Reading.{program-refused, start-unreadable, start-readable, start-refused, start-taken, placed-loaded, loaded-by}
 use Rattle.replay.proofs.replay.Statement.{statement}
 use Rattle.replay.proofs.replay.Tie as tie
 
@@ -16,26 +15,31 @@ returns c =
 
 returns-2 : tie.Need-returns-2
 returns-2 c =
-    let atRecord = c .before .before .before in
-    let atAnswer = atRecord .before .before in
+    let atRefusal = c .before in
+    let atStart = atRefusal .before .before in
+    let atAnswer = atStart .before .before .before in
     let atRead = atAnswer .before .before .before in
     let (P, read, placed) = readable _ (sym (atRead .read-program .ensures .answer) ∙ atAnswer .answer2 .given .1) in
+    let fits = placed-loaded read placed .fits in
     refuses _ _
-    (record-refused _ _ _ read (placed .same) (record-unreadable _ (sym (c .before .refusal .given .1) ∙ atRecord .read-record .ensures)))
+    (start-refused _ _ _ read (placed .same) (start-unreadable _ fits _ (atStart .start-cells .ensures) (atRefusal .refusal .given .1)))
+
+-- The start that was read, and the program before it.
+abbrev atTold : tie.After-replay-record → tie.After-enum-told
+atTold c = let atLent = c .before .before .before in atLent .before .before .before .before
 
 returns-3 : tie.Need-returns-3
 returns-3 c =
-    let atArgs = c .before .before .before in
-    let atStarts = atArgs .before .before in
-    let atCount = atStarts .before .before in
-    let atRecord = atCount .before .before in
-    let atAnswer = atRecord .before .before in
+    let atStart = atTold c .before .before in
+    let atAnswer = atStart .before .before .before in
     let atRead = atAnswer .before .before .before in
     let promise = atRead .read-program .ensures in
     let (P, read, placed) = readable _ (sym (promise .answer) ∙ atAnswer .answer2 .given .1) in
-    let (items, found, l) = readable-items _ _ (sym (atCount .count .given .1) ∙ atRecord .read-record .ensures) in
-    rw (record-read _ _ _ read (placed .same) found)
-    (c .replay-items .ensures (both-read (placed-loaded read (rw (promise .starts) placed)) (record-items _ _ found) l))
+    let loaded = placed-loaded read placed in
+    let (readings, found, table) = start-readable _ (loaded .fits) _ (atStart .start-cells .ensures) (atTold c .enum-told .given .1) in
+    rw (start-taken _ _ _ read (placed .same) found)
+    (c .replay-record .ensures
+    (record { P = P; loaded = loaded-by (promise .starts) loaded; readings = readings; table = table }))
 
 pub replay-spec : {M : Type 1} → statement M
 replay-spec =
