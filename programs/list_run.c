@@ -3,9 +3,9 @@
 #include <signal.h>
 #include <stdint.h>
 
-/* Reads run.prg and run.rec in the folder where the program is started, prints the listing and
- * returns the exit status: 0 for an order, 1 for a ring, 2 for a refusal, 3 where the output could
- * not be written. */
+/* Reads run.prg, run.sta and run.rec in the folder where the program is started, prints the listing
+ * and returns the exit status: 0 for an order, 1 for a ring, 2 for a refusal, 3 where the output
+ * could not be written. */
 uint8_t lellmusu_list_run(void);
 
 int main(void)

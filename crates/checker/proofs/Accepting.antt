@@ -5,7 +5,6 @@ use mathlib.Core.List.{List}
 use Rattle.model.specs.declared.Header.{Header}
 use Rattle.model.specs.declared.Refusal.{Refusal}
 use Rattle.model.specs.Refusals.{Result}
-use Rattle.model.specs.Machine.{Start}
 use Rattle.model.specs.Checks.{accept, Verdicts, checkResult}
 use Rattle.memory.specs.Tables.{Table}
 use Rattle.replay.specs.declared.Acceptance as Acceptance
@@ -25,21 +24,21 @@ told-accepted : {m : Result Verdicts} {room : Room} {header header′ : Header} 
     Concludes m room cells′ (acceptedWith room header′ groups′ (verdictTold groups′ items′ trail′))
 told-accepted concludes p q r s t = rw (p, q, r, s, t) concludes
 
-module _ (start : Start) (program recorded : List ℕ) (room : Room) {before after : Lent} {r : Acceptance}
-    (handed : HandsOver (accept start program recorded) before after r) where
+module _ (program start recorded : List ℕ) (room : Room) {before after : Lent} {r : Acceptance}
+    (handed : HandsOver (accept program start recorded) before after r) where
   abbrev Ends : Concluded → Type 0
-  Ends = Concludes (checkResult start program recorded (room .groups) (room .cells)) room (after .cells)
+  Ends = Concludes (checkResult program start recorded (room .groups) (room .cells)) room (after .cells)
 
   pub ends-refused : {x : Refusal} → r ≡ Acceptance.the-variants.Refused x → {k : Concluded} → k ≡ refusedWith x → Ends k
   ends-refused found e =
       rw e
-      (concludes-refused start program recorded room (after .cells)
-      (replay-refused start program recorded room (accept-refused (accept start program recorded) handed found)))
+      (concludes-refused program start recorded room (after .cells)
+      (replay-refused program start recorded room (accept-refused (accept program start recorded) handed found)))
 
   pub ends-accepted : {header : Header} {items groups : ℕ} → r ≡ Acceptance.the-variants.Accepted header items groups → {k : Concluded} →
       k ≡ acceptedWith room header groups (verdictTold groups items (after .trail)) → Ends k
   ends-accepted found e =
-      let known = accept-found (accept start program recorded) handed found in
+      let known = accept-found (accept program start recorded) handed found in
       rw e
-      (told-accepted (concludes-accepted start program recorded room (known .a) (known .is))
+      (told-accepted (concludes-accepted program start recorded room (known .a) (known .is))
       (known .header-is) (known .items-is) (known .groups-is) (known .cells-is) (known .trail-is))

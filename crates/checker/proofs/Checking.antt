@@ -1,4 +1,4 @@
--- The whole check, for lists of either form: what is concluded from zeros, once it is written, is the definition's outcome, and so meets the demands.
+-- The whole check, for lists of either form: what is concluded, once it is written, is the definition's outcome, and so meets the demands.
 use Prim.Native.Nat.{ℕ, _≤_}
 use mathlib.Core.Path.{_≡_, refl, ap, _∙_}
 use mathlib.Core.List.{List}
@@ -7,12 +7,9 @@ use lib.ListN.{length, replicate}
 use Rattle.model.specs.Limits.{maxItems}
 use Rattle.model.specs.Refusals.{Result, ok, refused}
 use Rattle.model.specs.Bytes.{AreBytes}
-use Rattle.model.specs.Machine.{Start, zeroStart}
 use Rattle.model.specs.Checks.{Verdicts, Outcome, fill, entryBytes, outcome, outcomeBytes, checkResult, checkIn, checkBytesIn}
 use Rattle.model.proofs.Laws.{when-true}
-use Rattle.memory.specs.Tables.{Table, cellsSize, zeros}
-use Rattle.memory.specs.Copies.{startIn}
-use Rattle.memory.proofs.Stores.{zero-start}
+use Rattle.memory.specs.Tables.{Table}
 use Rattle.lists.specs.Written.{numbersWritten, wordsWritten, cellsListed, cellsWritten, cellWordsWritten}
 use Rattle.lists.proofs.Room.{CellsFit, true-cells-fit}
 use Rattle.lists.proofs.Results.{groups-written, group-words-written}
@@ -46,19 +43,19 @@ unfolding capacity cellsWritten cellWordsWritten
 cells-into numbers list cells ranks width fit = when-true _ _ (true-cells-fit (length list) ranks width fit)
 cells-into bytes list cells ranks width fit = when-true _ _ (true-cells-fit _ ranks width fit)
 
--- The definition's outcome, with its result for its start.
+-- The definition's outcome, by its result.
 abbrev outcomeOf : Form → (order cells : List ℕ) → Result Verdicts → Outcome
 outcomeOf numbers = outcome
 outcomeOf bytes = outcomeBytes
 
-abbrev resultFrom : Start → Form → (program recorded order cells : List ℕ) → Result Verdicts
-resultFrom start form program recorded order cells = checkResult start program recorded (capacity form order) (capacity form cells)
+abbrev resultIn : Form → (program start recorded order cells : List ℕ) → Result Verdicts
+resultIn form program start recorded order cells = checkResult program start recorded (capacity form order) (capacity form cells)
 
-result-defined : (form : Form) (program recorded order cells : List ℕ) →
-    outcomeOf form order cells (resultFrom zeroStart form program recorded order cells) ≡ definition form program recorded order cells
+result-defined : (form : Form) (program start recorded order cells : List ℕ) →
+    outcomeOf form order cells (resultIn form program start recorded order cells) ≡ definition form program start recorded order cells
 unfolding checkIn checkBytesIn capacity
-result-defined numbers program recorded order cells = refl
-result-defined bytes program recorded order cells = refl
+result-defined numbers program start recorded order cells = refl
+result-defined bytes program start recorded order cells = refl
 
 filled-outcome : (form : Form) (order cells : List ℕ) (m : Result Verdicts) →
     answering (answerIn m) (fill (written form (listedIn m)) order) (fill (written form (cellsIn m)) cells) ≡ outcomeOf form order cells m
@@ -68,14 +65,14 @@ filled-outcome numbers order cells (refused r) = refl
 filled-outcome bytes order cells (ok v) = refl
 filled-outcome bytes order cells (refused r) = refl
 
-definition-meets : (form : Form) (program recorded order cells : List ℕ) → AreBytes recorded →
-    MeetsDemands form program recorded order cells (definition form program recorded order cells)
+definition-meets : (form : Form) (program start recorded order cells : List ℕ) → AreBytes recorded →
+    MeetsDemands form program start recorded order cells (definition form program start recorded order cells)
 definition-meets numbers = check-meets-demands
 definition-meets bytes = checkBytes-meets-demands
 
-module _ (form : Form) (program recorded order cells : List ℕ) (are-bytes : AreBytes recorded) where
+module _ (form : Form) (program start recorded order cells : List ℕ) (are-bytes : AreBytes recorded) where
   abbrev result : Result Verdicts
-  result = resultFrom (startIn (zeros cellsSize)) form program recorded order cells
+  result = resultIn form program start recorded order cells
 
   abbrev room : Room
   room = record { groups = capacity form order; cells = capacity form cells }
@@ -94,12 +91,11 @@ module _ (form : Form) (program recorded order cells : List ℕ) (are-bytes : Ar
 
     module _ {order′ cells′ : List ℕ} (writes-groups : order′ ≡ groupsInto form order (k .groups) (k .count))
         (writes-cells : cells′ ≡ cellsInto form cells last (k .ranks) (k .width)) where
-      same : answering (k .answer) order′ cells′ ≡ definition form program recorded order cells
+      same : answering (k .answer) order′ cells′ ≡ definition form program start recorded order cells
       same =
           (λ j. answering (concludes .answers j) ((writes-groups ∙ groups-filled) j) ((writes-cells ∙ cells-filled) j))
           ∙ filled-outcome form order cells result
-          ∙ ap (λ start. outcomeOf form order cells (resultFrom start form program recorded order cells)) zero-start
-          ∙ result-defined form program recorded order cells
+          ∙ result-defined form program start recorded order cells
 
-      pub checks : Checked form program recorded order cells (answering (k .answer) order′ cells′)
-      checks = record { same = same; meets = rw same (definition-meets form program recorded order cells are-bytes) }
+      pub checks : Checked form program start recorded order cells (answering (k .answer) order′ cells′)
+      checks = record { same = same; meets = rw same (definition-meets form program start recorded order cells are-bytes) }

@@ -12,13 +12,12 @@ use Rattle.model.specs.declared.Answer.{Answer}
 use Rattle.model.specs.declared.Header.{Header}
 use Rattle.model.specs.declared.Refusal.{Refusal}
 use Rattle.model.specs.Refusals.{Result, ok, refused, orderTooShort, memoryTooShort}
-use Rattle.model.specs.Machine.{Start}
 use Rattle.model.specs.Orders.{Verdict}
 use Rattle.model.specs.Checks.{Accepted, accept, verdictOn, lastCells, listed, Verdicts, checkResultIn, checkResult}
 use Rattle.model.proofs.Laws.{decided}
 use Rattle.record_facts.proofs.Bounds.{accepted-bounds}
 use Rattle.memory.specs.Tables.{Table, cellsSize, numberAt}
-use Rattle.memory.specs.Copies.{tableOf}
+use Rattle.memory.specs.Made.{tableOf}
 use Rattle.memory.proofs.Filled.{made-holds}
 use Rattle.graph.specs.Edges.{groupList}
 use Rattle.lists.proofs.Ranks.{rank-none}
@@ -48,9 +47,9 @@ concludes-verdict v ranks width {judged} judged-is answers =
     ∙ ap (λ (j : Judged). withGroups ranks width (j .groups) (j .count) (answerOf (j .cyclic) (j .count))) judged-is
     ∙ ap (withGroups ranks width (groupList (listed v)) (length (listed v))) (answer-is v)
 
-module _ (start : Start) (program recorded : List ℕ) (room : Room) where
+module _ (program start recorded : List ℕ) (room : Room) where
   abbrev result : Result Verdicts
-  result = checkResult start program recorded (room .groups) (room .cells)
+  result = checkResult program start recorded (room .groups) (room .cells)
 
   -- A refusal.
   pub concludes-refused : (cells : Table) {r : Refusal} → result ≡ refused r → Concludes result room cells (refusedWith r)
@@ -65,12 +64,12 @@ module _ (start : Start) (program recorded : List ℕ) (room : Room) where
         cells-fit = record { few-ranks = omega arith; few-cells = omega arith; room = omega arith };
       })
 
-  pub replay-refused : {r : Refusal} → accept start program recorded ≡ refused r → result ≡ refused r
+  pub replay-refused : {r : Refusal} → accept program start recorded ≡ refused r → result ≡ refused r
   unfolding checkResultIn
   replay-refused h = rw h
 
   -- An accepted record.
-  module _ (a : Accepted) (accepted : accept start program recorded ≡ ok a) where
+  module _ (a : Accepted) (accepted : accept program start recorded ≡ ok a) where
     abbrev header : Header
     header = a .program .header
 
@@ -101,8 +100,8 @@ module _ (start : Start) (program recorded : List ℕ) (room : Room) where
     concludes-judged : orderFits ≡ true → cellsFit ≡ true → Concludes result room last (judgedAs told (header .ranks) (header .cells))
     unfolding lastCells
     concludes-judged t u =
-        let tellable = accepted-tellable start program recorded a accepted in
-        let fits = accepted-bounds start program recorded a accepted .header in
+        let tellable = accepted-tellable program start recorded a accepted in
+        let fits = accepted-bounds program start recorded a accepted .header in
         let cells = a .run .last .machine .cells in
         rw (verdict-told (a .run) tellable, answerable t u)
         (record {

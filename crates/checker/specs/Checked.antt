@@ -8,7 +8,7 @@ use Rattle.demands.specs.Entries.{Form, numbers, bytes}
 use Rattle.demands.specs.Demands.{MeetsDemands}
 
 -- The definition for lists of 16-bit numbers, and for lists of bytes.
-abbrev pub definition : Form → (program recorded order cells : List ℕ) → Outcome
+abbrev pub definition : Form → (program start recorded order cells : List ℕ) → Outcome
 definition numbers = check
 definition bytes = checkBytes
 
@@ -17,6 +17,6 @@ abbrev pub answering : Answer → (order cells : List ℕ) → Outcome
 answering answer order cells = record { answer = answer; order = order; cells = cells }
 
 -- The check's promise; `order` and `cells` are what the lists held before.
-pub record Checked (form : Form) (program recorded order cells : List ℕ) (o : Outcome) : Type 0 where
-  pub same : o ≡ definition form program recorded order cells
-  pub meets : MeetsDemands form program recorded order cells o
+pub record Checked (form : Form) (program start recorded order cells : List ℕ) (o : Outcome) : Type 0 where
+  pub same : o ≡ definition form program start recorded order cells
+  pub meets : MeetsDemands form program start recorded order cells o

@@ -17,7 +17,6 @@ use replay::replay;
 use verdicts::answer_of;
 ghost use mathlib.Core.Path.{_≡_};
 ghost use Rattle.model.specs.Checks.{checkResult};
-ghost use Rattle.memory.specs.Copies.{startIn};
 ghost use Rattle.judging.specs.Told.{verdictTold};
 ghost use Rattle.checker.specs.Concluded.{refusedWith, judgedAs, acceptedWith, Concludes};
 
@@ -85,10 +84,16 @@ fn accepted(room: Room, header: Header, items: usize, groups: u16, trail: &Trail
     verdict_on(trail, items, groups, header)
 }
 
-// The whole check but for the writing. `cells` holds the start, and then the last cells of an accepted record.
-pub fn conclude(program: &[u8], recorded: &[u8], room: Room, cells: &mut Cells) -> Concluded
+// The whole check but for the writing. `cells` gets the last cells of an accepted record.
+pub fn conclude(
+    program: &[u8],
+    start: &[u8],
+    recorded: &[u8],
+    room: Room,
+    cells: &mut Cells,
+) -> Concluded
     ensures { λ r. ⌜ Concludes
-        (checkResult (startIn (now (cells .entry))) (now (program .entry)) (now (recorded .entry)) (room .groups) (room .cells))
+        (checkResult (now (program .entry)) (now (start .entry)) (now (recorded .entry)) (room .groups) (room .cells))
         room (now (cells .exit)) r ⌝ }
 {
     let mut control = [0; RANKS];
@@ -96,6 +101,7 @@ pub fn conclude(program: &[u8], recorded: &[u8], room: Room, cells: &mut Cells) 
     let mut trail = [[0; TOLD]; ITEMS];
     match replay(
         program,
+        start,
         recorded,
         &mut control,
         &mut registers,

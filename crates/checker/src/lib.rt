@@ -1,4 +1,4 @@
-// The whole check: the program and the record are read, the record is replayed, and its arrows come to an order or a ring.
+// The whole check: program, start and record are read, the record is replayed, and its arrows come to an order or a ring.
 mod conclusion;
 
 use crate::conclusion::Room;
@@ -13,10 +13,16 @@ use model::RANKS;
 ghost use Rattle.demands.specs.Entries.{numbers, bytes};
 ghost use Rattle.checker.specs.Checked.{Checked, answering};
 
-// Checks a record of a program. An order or a ring fills the first entries of `order`, and the last cell values, rank 1 first, those of
+// Checks a record of a program from a start. An order or a ring fills the first entries of `order`, and the last cell values, rank 1 first, those of
 // `cells`; the other entries are untouched. On a refusal nothing lent changes.
-pub fn check(program: &[u8], recorded: &[u8], order: &mut [u16], cells: &mut [u16]) -> Answer
-    ensures { λ r. ⌜ Checked numbers (now (program .entry)) (now (recorded .entry)) (now (order .entry)) (now (cells .entry))
+pub fn check(
+    program: &[u8],
+    start: &[u8],
+    recorded: &[u8],
+    order: &mut [u16],
+    cells: &mut [u16],
+) -> Answer
+    ensures { λ r. ⌜ Checked numbers (now (program .entry)) (now (start .entry)) (now (recorded .entry)) (now (order .entry)) (now (cells .entry))
         (answering r (now (order .exit)) (now (cells .exit))) ⌝ }
 {
     let mut last = [[0; CELLS]; RANKS];
@@ -24,7 +30,7 @@ pub fn check(program: &[u8], recorded: &[u8], order: &mut [u16], cells: &mut [u1
         groups: order.len(),
         cells: cells.len(),
     };
-    let concluded = conclude(program, recorded, room, &mut last);
+    let concluded = conclude(program, start, recorded, room, &mut last);
     let groups = concluded.groups;
     write_numbers(order, 0, &groups, concluded.count);
     write_cells(cells, &last, concluded.ranks, concluded.width);
@@ -32,8 +38,14 @@ pub fn check(program: &[u8], recorded: &[u8], order: &mut [u16], cells: &mut [u1
 }
 
 // The same with both lists in bytes, two an entry, big-endian. An odd last byte is never used.
-pub fn check_bytes(program: &[u8], recorded: &[u8], order: &mut [u8], cells: &mut [u8]) -> Answer
-    ensures { λ r. ⌜ Checked bytes (now (program .entry)) (now (recorded .entry)) (now (order .entry)) (now (cells .entry))
+pub fn check_bytes(
+    program: &[u8],
+    start: &[u8],
+    recorded: &[u8],
+    order: &mut [u8],
+    cells: &mut [u8],
+) -> Answer
+    ensures { λ r. ⌜ Checked bytes (now (program .entry)) (now (start .entry)) (now (recorded .entry)) (now (order .entry)) (now (cells .entry))
         (answering r (now (order .exit)) (now (cells .exit))) ⌝ }
 {
     let mut last = [[0; CELLS]; RANKS];
@@ -41,7 +53,7 @@ pub fn check_bytes(program: &[u8], recorded: &[u8], order: &mut [u8], cells: &mu
         groups: order.len() / 2,
         cells: cells.len() / 2,
     };
-    let concluded = conclude(program, recorded, room, &mut last);
+    let concluded = conclude(program, start, recorded, room, &mut last);
     let groups = concluded.groups;
     write_words(order, 0, &groups, concluded.count);
     write_cell_words(cells, &last, concluded.ranks, concluded.width);

@@ -1,13 +1,12 @@
 -- Lists as their caller reads them: what is written into the first entries is read back from them, and the rest is as it was.
-use Prim.Native.Nat.{ℕ, suc, _+_, _*_, _/_, _≤_}
-use mathlib.Core.Path.{_≡_, refl, ap, _∙_}
+use Prim.Native.Nat.{ℕ, _+_, _*_, _/_, _≤_}
+use mathlib.Core.Path.{_≡_, refl}
 use mathlib.Core.List.{List, [], _∷_, _++_}
-use native.Mathlib.Nat.{div-add-mod'}
 use native.Mathlib.Omega.{arith}
 use lib.ListN.{length, drop, length-append, length-drop}
 use lib.Seq.{take-append-seam, drop-append-seam}
-use Rattle.model.specs.Limits.{byteValues}
-use Rattle.model.specs.Checks.{fill, entryBytes, twoByTwo}
+use Rattle.model.specs.Checks.{fill, entryBytes}
+use Rattle.model.proofs.Entries.{two-length, two-entries}
 use Rattle.demands.specs.Entries.{Form, numbers, bytes, width, entries, firstEntries}
 use Rattle.demands.specs.Demands.{Untouched}
 
@@ -24,10 +23,8 @@ written-length bytes (n ∷ new) = omega (arith, written-length bytes new)
 
 -- What is written is read.
 read-written : (form : Form) (new rest : List ℕ) → entries form (written form new ++ rest) ≡ new ++ entries form rest
-unfolding entryBytes twoByTwo
 read-written numbers new rest = refl
-read-written bytes [] rest = refl
-read-written bytes (n ∷ new) rest = rw (div-add-mod' n byteValues, read-written bytes new rest)
+read-written bytes new rest = two-entries new rest
 
 -- How many entries a list has.
 unfoldable pub capacity : Form → List ℕ → ℕ
@@ -35,11 +32,9 @@ capacity numbers list = length list
 capacity bytes list = length list / 2
 
 pub entries-length : (form : Form) (list : List ℕ) → length (entries form list) ≡ capacity form list
-unfolding capacity twoByTwo
+unfolding capacity
 entries-length numbers list = refl
-entries-length bytes [] = refl
-entries-length bytes (odd ∷ []) = refl
-entries-length bytes (high ∷ low ∷ rest) = ap suc (entries-length bytes rest) ∙ omega arith
+entries-length bytes list = two-length list
 
 -- So many entries take no more than the list has.
 fits : (form : Form) (n : ℕ) (list : List ℕ) → n ≤ capacity form list → width form * n ≤ length list

@@ -12,8 +12,8 @@ use Rattle.demands.specs.Entries.{bytes}
 use Rattle.checker.specs.Checked.{answering, Checked}
 use Rattle.lellmusu.specs.Reported.{numberOf, valueOf, answerRead, Reported}
 
-module _ {program recorded order cells order′ cells′ : List ℕ} where
-  read-back : (a : Answer) → Checked bytes program recorded order cells (answering a order′ cells′) → answerRead (numberOf a) (valueOf a) ≡ a
+module _ {program start recorded order cells order′ cells′ : List ℕ} where
+  read-back : (a : Answer) → Checked bytes program start recorded order cells (answering a order′ cells′) → answerRead (numberOf a) (valueOf a) ≡ a
   unfolding answerRead
   read-back (Order count) checked = refl
   read-back (Ring count) checked = refl
@@ -23,8 +23,8 @@ module _ {program recorded order cells order′ cells′ : List ℕ} where
       let no-ring : eqb (r .number) 255 ≡ false = ne-eqb (r .number) 255 (λ e. false≢true (rw e at tabled)) in
       rw (no-order, no-ring)
 
-  pub reports : {a : Answer} {value number : ℕ} → Checked bytes program recorded order cells (answering a order′ cells′) → value ≡ valueOf a →
-      number ≡ numberOf a → Reported program recorded order cells order′ cells′ value number
+  pub reports : {a : Answer} {value number : ℕ} → Checked bytes program start recorded order cells (answering a order′ cells′) → value ≡ valueOf a →
+      number ≡ numberOf a → Reported program start recorded order cells order′ cells′ value number
   reports {a} checked value-is number-is =
       rw (value-is, number-is)
       (record {

@@ -1,12 +1,11 @@
--- What slip and listing answer, in two numbers.
+-- What slip, start and listing answer, in two numbers.
 use Prim.Native.Nat.{ℕ}
 use mathlib.Core.Path.{_≡_, ap, _∙_}
 use mathlib.Core.List.{List}
 use Rattle.model.specs.declared.Filled.{Filled}
 use Rattle.model.specs.declared.Listed.{Listed}
-use Rattle.model.specs.Slips.{Lent}
+use Rattle.model.specs.Lending.{Lent, answering}
 use Rattle.model.specs.Listings.{Listing}
-use Rattle.slips.specs.Answers.{answering}
 use Rattle.listing.specs.Told.{printing}
 use Rattle.lellmusu.specs.Reported.{numberOf}
 use Rattle.lellmusu.specs.Told.{filledNumber, filledValue, textLength, Tells, Prints}

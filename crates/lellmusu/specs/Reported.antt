@@ -29,9 +29,9 @@ answerRead number value =
     (λ _. when (eqb number 255) (λ _. Ring value) (λ _. Refused (record { number = number; place = value })))
 
 -- The number returned and the value written, and what the lent lists hold then; and as a caller reads them, they meet the three demands.
-pub record Reported (program recorded order cells order′ cells′ : List ℕ) (value number : ℕ) : Type 0 where
-  pub returns : number ≡ numberOf (checkBytes program recorded order cells .answer)
-  pub counts : value ≡ valueOf (checkBytes program recorded order cells .answer)
-  pub lists : order′ ≡ checkBytes program recorded order cells .order
-  pub fills : cells′ ≡ checkBytes program recorded order cells .cells
-  pub meets : MeetsDemands bytes program recorded order cells (answering (answerRead number value) order′ cells′)
+pub record Reported (program start recorded order cells order′ cells′ : List ℕ) (value number : ℕ) : Type 0 where
+  pub returns : number ≡ numberOf (checkBytes program start recorded order cells .answer)
+  pub counts : value ≡ valueOf (checkBytes program start recorded order cells .answer)
+  pub lists : order′ ≡ checkBytes program start recorded order cells .order
+  pub fills : cells′ ≡ checkBytes program start recorded order cells .cells
+  pub meets : MeetsDemands bytes program start recorded order cells (answering (answerRead number value) order′ cells′)

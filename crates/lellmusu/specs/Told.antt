@@ -1,4 +1,4 @@
--- What the entries for slip and listing return and write, by the definitions.
+-- What the entries for slip, start and listing return and write, by the definitions.
 use Prim.Native.Nat.{ℕ}
 use mathlib.Core.Path.{_≡_}
 use mathlib.Core.List.{List}
@@ -9,7 +9,7 @@ use Rattle.model.specs.declared.Filled.{Filled}
 use Rattle.model.specs.declared.Filled.the-variants.{Entries, Refused}
 use Rattle.model.specs.Refusals.{memoryTooShort}
 use Rattle.model.specs.Choice.{when}
-use Rattle.model.specs.Slips.{Lent}
+use Rattle.model.specs.Lending.{Lent}
 use Rattle.model.specs.Listings.{Listing}
 use Rattle.lellmusu.specs.Reported.{numberOf}
 

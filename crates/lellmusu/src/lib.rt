@@ -1,4 +1,4 @@
-// Check, slip and listing for a program in another language that links the static library.
+// Check, slip, listing and start for a program in another language that links the static library.
 use checker::check_bytes;
 use listing::listing;
 use model::Answer;
@@ -6,8 +6,11 @@ use model::Filled;
 use model::refusals::MEMORY_TOO_SHORT;
 use slips::read_slip;
 use slips::write_slip;
+use starts::read_start_bytes;
+use starts::write_start_bytes;
 ghost use mathlib.Core.Path.{_≡_};
-ghost use Rattle.model.specs.Slips as definitions;
+ghost use Rattle.model.specs.Slips as slips;
+ghost use Rattle.model.specs.Starts as starts;
 ghost use Rattle.model.specs.Listings as listings;
 ghost use Rattle.lellmusu.specs.Reported.{numberOf, valueOf, Reported};
 ghost use Rattle.lellmusu.specs.Told.{filledNumber, filledValue, textLength, Tells, Prints};
@@ -17,7 +20,7 @@ const ORDER: u8 = 0;
 
 const RING: u8 = 255;
 
-// What it returns where a slip is written or read.
+// What it returns where a slip or a start is written or read.
 const FILLED: u8 = 0;
 
 // What an answer is, and the count of groups or the place, as numbers.
@@ -41,20 +44,21 @@ fn value_of(answer: Answer) -> usize
     }
 }
 
-// Checks a record of a program as `check_bytes` does, with the answer in plain numbers: it returns 0 for an order, 255 for a ring, and else the
+// Checks a record of a program from a start as `check_bytes` does, with the answer in plain numbers: it returns 0 for an order, 255 for a ring, and else the
 // refusal's number, and writes how many groups are listed, or the refusal's place.
 #[no_mangle]
 pub extern "C" fn lellmusu_check(
     program: &[u8],
+    start: &[u8],
     recorded: &[u8],
     order: &mut [u8],
     cells: &mut [u8],
     value: &mut usize,
 ) -> u8
-    ensures { λ r. ⌜ Reported (now (program .entry)) (now (recorded .entry)) (now (order .entry)) (now (cells .entry))
+    ensures { λ r. ⌜ Reported (now (program .entry)) (now (start .entry)) (now (recorded .entry)) (now (order .entry)) (now (cells .entry))
         (now (order .exit)) (now (cells .exit)) (now (value .exit)) r ⌝ }
 {
-    let answer = check_bytes(program, recorded, order, cells);
+    let answer = check_bytes(program, start, recorded, order, cells);
     *value = value_of(answer);
     number_of(answer)
 }
@@ -82,14 +86,15 @@ fn filled_value(filled: Filled) -> usize
 #[no_mangle]
 pub extern "C" fn lellmusu_write_slip(
     program: &[u8],
+    start: &[u8],
     recorded: &[u8],
     slip: &mut [u8],
     value: &mut usize,
 ) -> u8
-    ensures { λ r. ⌜ Tells (definitions.writeSlip (now (program .entry)) (now (recorded .entry)) (now (slip .entry)))
+    ensures { λ r. ⌜ Tells (slips.writeSlip (now (program .entry)) (now (start .entry)) (now (recorded .entry)) (now (slip .entry)))
         (now (slip .exit)) (now (value .exit)) r ⌝ }
 {
-    let filled = write_slip(program, recorded, slip);
+    let filled = write_slip(program, start, recorded, slip);
     *value = filled_value(filled);
     filled_number(filled)
 }
@@ -103,9 +108,43 @@ pub extern "C" fn lellmusu_read_slip(
     counts: &mut [u16],
     value: &mut usize,
 ) -> u8
-    ensures { λ r. ⌜ Tells (definitions.readSlip ranks (now (slip .entry)) (now (counts .entry))) (now (counts .exit)) (now (value .exit)) r ⌝ }
+    ensures { λ r. ⌜ Tells (slips.readSlip ranks (now (slip .entry)) (now (counts .entry))) (now (counts .exit)) (now (value .exit)) r ⌝ }
 {
     let filled = read_slip(ranks as u16, slip, counts);
+    *value = filled_value(filled);
+    filled_number(filled)
+}
+
+// Writes a start from a list of cells in bytes, as `write_start_bytes` does: it returns 0 and writes how many bytes the start has, or the refusal's
+// number and its place.
+#[no_mangle]
+pub extern "C" fn lellmusu_write_start(
+    program: &[u8],
+    cells: &[u8],
+    start: &mut [u8],
+    value: &mut usize,
+) -> u8
+    ensures { λ r. ⌜ Tells (starts.writeStartBytes (now (program .entry)) (now (cells .entry)) (now (start .entry)))
+        (now (start .exit)) (now (value .exit)) r ⌝ }
+{
+    let filled = write_start_bytes(program, cells, start);
+    *value = filled_value(filled);
+    filled_number(filled)
+}
+
+// Reads a start into a list of cells in bytes, as `read_start_bytes` does: it returns 0 and writes how many entries it filled, or the refusal's number
+// and its place.
+#[no_mangle]
+pub extern "C" fn lellmusu_read_start(
+    program: &[u8],
+    start: &[u8],
+    cells: &mut [u8],
+    value: &mut usize,
+) -> u8
+    ensures { λ r. ⌜ Tells (starts.readStartIntoBytes (now (program .entry)) (now (start .entry)) (now (cells .entry)))
+        (now (cells .exit)) (now (value .exit)) r ⌝ }
+{
+    let filled = read_start_bytes(program, start, cells);
     *value = filled_value(filled);
     filled_number(filled)
 }
@@ -131,14 +170,15 @@ fn text_length(answer: Answer, written: usize) -> usize
 #[no_mangle]
 pub extern "C" fn lellmusu_list(
     program: &[u8],
+    start: &[u8],
     recorded: &[u8],
     text: &mut [u8],
     value: &mut usize,
 ) -> u8
-    ensures { λ r. ⌜ Prints (listings.listing (now (program .entry)) (now (recorded .entry)) (now (text .entry)))
+    ensures { λ r. ⌜ Prints (listings.listing (now (program .entry)) (now (start .entry)) (now (recorded .entry)) (now (text .entry)))
         (now (text .exit)) (now (value .exit)) r ⌝ }
 {
-    let listed = listing(program, recorded, text);
+    let listed = listing(program, start, recorded, text);
     let answer = listed.answer;
     *value = text_length(answer, listed.length);
     number_of(answer)

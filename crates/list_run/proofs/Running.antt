@@ -10,14 +10,13 @@ use Rattle.model.specs.declared.Answer.the-variants.{Order, Ring, Refused}
 use Rattle.model.specs.declared.Listed.{Listed}
 use Rattle.model.specs.Refusals.{Result, ok, refused}
 use Rattle.model.specs.Bytes.{AreBytes}
-use Rattle.model.specs.Machine.{zeroStart}
 use Rattle.model.specs.Checks.{Accepted, accept, verdictOn, answered, fill}
 use Rattle.model.specs.Listings.{Listing, listingIn, listing, listingOf, refusedLine, printed, printedOf}
 use Rattle.model.proofs.Laws.{decided}
 use Rattle.list_run.specs.Statuses.{statusOf, notWritten, Status, written, unwritten}
 use Rattle.list_run.specs.Runs.{Whole, Runs}
 use Rattle.sizes.specs.Sizes.{maxListingBytes}
-use Rattle.sizes.proofs.Starts.{the-same-listing}
+use Rattle.sizes.proofs.Fronts.{the-same-listing}
 use Rattle.sizes.proofs.Listings.{listing-whole}
 
 abbrev Fits : Listing → Type 0
@@ -36,9 +35,9 @@ module _ (memory : List ℕ) where
   printed-of-fits (ok a) = printed-fits (answered (verdictOn (a .run))) (listingOf a (verdictOn (a .run)))
   printed-of-fits (refused r) = printed-fits (Refused r) (refusedLine r)
 
-fits : (program recorded memory : List ℕ) → Fits (listing program recorded memory)
+fits : (program start recorded memory : List ℕ) → Fits (listing program start recorded memory)
 unfolding listingIn
-fits program recorded memory = printed-of-fits memory (accept zeroStart program recorded)
+fits program start recorded memory = printed-of-fits memory (accept program start recorded)
 
 -- Every status is one of the four.
 answer-known : (answer : Answer) → statusOf answer ≤ notWritten
@@ -51,32 +50,32 @@ status-known {answer} (written h) = rw h (answer-known answer)
 status-known (unwritten h) = omega (arith, h)
 
 -- Bytes that are as many as the longest listing has hold it whole.
-whole : (programFile recordFile memory : List ℕ) {text : List ℕ} {r : Listed} {status : ℕ} →
-    record { result = r; memory = text } ≡ listing programFile recordFile memory → Status (r .answer) status → AreBytes programFile →
-    maxListingBytes ≤ length memory → Whole (accept zeroStart programFile recordFile) memory text status
-whole programFile recordFile memory {status = status} listed ends bound enough =
-    let is = listed ∙ listing-whole programFile recordFile memory bound enough in
+whole : (programFile startFile recordFile memory : List ℕ) {text : List ℕ} {r : Listed} {status : ℕ} →
+    record { result = r; memory = text } ≡ listing programFile startFile recordFile memory → Status (r .answer) status → AreBytes programFile →
+    maxListingBytes ≤ length memory → Whole (accept programFile startFile recordFile) memory text status
+whole programFile startFile recordFile memory {status = status} listed ends bound enough =
+    let is = listed ∙ listing-whole programFile startFile recordFile memory bound enough in
     record {
       writes = ap (λ (l : Listing). l .memory) is;
       ends = subst (λ (l : Listing). Status (l .result .answer) status) is ends;
     }
 
-module _ (program recorded memory : List ℕ) {text : List ℕ} {r : Listed}
-    (listed : record { result = r; memory = text } ≡ listing program recorded memory) where
+module _ (program start recorded memory : List ℕ) {text : List ℕ} {r : Listed}
+    (listed : record { result = r; memory = text } ≡ listing program start recorded memory) where
   pub listing-fits : r .length ≤ length text
-  listing-fits = subst Fits (sym listed) (fits program recorded memory)
+  listing-fits = subst Fits (sym listed) (fits program start recorded memory)
 
-  pub runs : {status : ℕ} → Status (r .answer) status → Runs program recorded memory text status
+  pub runs : {status : ℕ} → Status (r .answer) status → Runs program start recorded memory text status
   runs {status} ends =
       record {
         lists =
-            λ programFile recordFile p q.
-            let same : record { result = r; memory = text } ≡ listing programFile recordFile memory =
-            listed ∙ rw (p, q) (the-same-listing programFile recordFile memory) in
+            λ programFile startFile recordFile p q w.
+            let same : record { result = r; memory = text } ≡ listing programFile startFile recordFile memory =
+            listed ∙ rw (p, q, w) (the-same-listing programFile startFile recordFile memory) in
             record {
               writes = ap (λ (l : Listing). l .memory) same;
               ends = subst (λ (l : Listing). Status (l .result .answer) status) same ends;
-              enough = whole programFile recordFile memory same ends;
+              enough = whole programFile startFile recordFile memory same ends;
             };
         known = status-known ends;
       }

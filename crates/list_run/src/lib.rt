@@ -1,26 +1,30 @@
-// The listing program: it reads a run's program and record from their files, prints the listing, and answers the exit status.
+// The listing program: it reads a run's program, start and record from their files, prints the listing, and answers the exit status.
 use listing::listing;
 use model::Answer;
 ghost use Prim.Native.Nat.{suc, _≤_};
 ghost use mathlib.Core.Path.{_≡_};
 ghost use lib.ListN.{length};
 ghost use Rattle.io.specs.Counts.{Counts};
-ghost use Rattle.sizes.specs.Sizes.{maxProgramBytes, maxRecordBytes, maxListingBytes};
+ghost use Rattle.sizes.specs.Sizes.{maxProgramBytes, maxStartBytes, maxRecordBytes, maxListingBytes};
 ghost use Rattle.list_run.specs.Runs.{Runs};
 ghost use Rattle.list_run.specs.Statuses.{statusOf, Status, notWritten};
 
 // The files of a run, in the folder where the program is started.
 const PROGRAM_FILE: [u8; 7] = *b"run.prg";
 
+const START_FILE: [u8; 7] = *b"run.sta";
+
 const RECORD_FILE: [u8; 7] = *b"run.rec";
 
-// What is read of each file: one byte more than the longest readable program or record has. That byte is left over already, so what lies behind it
-// changes nothing (`the-same-listing`).
-const PROGRAM_START: usize = 51209;
+// What is read of each file: one byte more than the longest readable program, start or record has. That byte is left over already, so what lies behind
+// it changes nothing (`the-same-listing`).
+const PROGRAM_FRONT: usize = 51209;
 
-const RECORD_START: usize = 10243;
+const START_FRONT: usize = 2177;
 
-// The longest listing that the limits of program and record allow.
+const RECORD_FRONT: usize = 10243;
+
+// The longest listing that the limits of program, start and record allow.
 const LISTING: usize = 44043;
 
 // The exit statuses.
@@ -32,17 +36,23 @@ const REFUSED: u8 = 2;
 
 const NOT_WRITTEN: u8 = 3;
 
-// Room for the start of each file, and for the listing.
-fn program_room() -> [u8; PROGRAM_START]
+// Room for the front of each file, and for the listing.
+fn program_room() -> [u8; PROGRAM_FRONT]
     ensures { λ r. ⌜ suc maxProgramBytes ≡ length r ⌝ }
 {
-    [0; PROGRAM_START]
+    [0; PROGRAM_FRONT]
 }
 
-fn record_room() -> [u8; RECORD_START]
+fn start_room() -> [u8; START_FRONT]
+    ensures { λ r. ⌜ suc maxStartBytes ≡ length r ⌝ }
+{
+    [0; START_FRONT]
+}
+
+fn record_room() -> [u8; RECORD_FRONT]
     ensures { λ r. ⌜ suc maxRecordBytes ≡ length r ⌝ }
 {
-    [0; RECORD_START]
+    [0; RECORD_FRONT]
 }
 
 fn listing_room() -> [u8; LISTING]
@@ -51,9 +61,9 @@ fn listing_room() -> [u8; LISTING]
     [0; LISTING]
 }
 
-// Fills the bytes from a file's start, as far as both go, and answers how many there were. A file that cannot be opened counts as empty, and one of
+// Fills the bytes from a file's front, as far as both go, and answers how many there were. A file that cannot be opened counts as empty, and one of
 // which a read fails ends there.
-fn read_start(path: &[u8], bytes: &mut [u8]) -> usize
+fn read_front(path: &[u8], bytes: &mut [u8]) -> usize
     ensures { λ r. ⌜ Counts r (now (bytes .exit)) ⌝ }
 {
     let file = os::open_read(path);
@@ -88,10 +98,10 @@ fn print(text: &[u8], answer: Answer) -> u8
 }
 
 // Lists a run of which so much was read, prints the listing, and answers the exit status.
-pub fn list(program: &[u8], recorded: &[u8], text: &mut [u8]) -> u8
-    ensures { λ r. ⌜ Runs (now (program .entry)) (now (recorded .entry)) (now (text .entry)) (now (text .exit)) r ⌝ }
+pub fn list(program: &[u8], start: &[u8], recorded: &[u8], text: &mut [u8]) -> u8
+    ensures { λ r. ⌜ Runs (now (program .entry)) (now (start .entry)) (now (recorded .entry)) (now (text .entry)) (now (text .exit)) r ⌝ }
 {
-    let listed = listing(program, recorded, text);
+    let listed = listing(program, start, recorded, text);
     let length = listed.length;
     let answer = listed.answer;
     print(&text[..length], answer)
@@ -103,12 +113,15 @@ pub extern "C" fn lellmusu_list_run() -> u8
     ensures { λ r. ⌜ r ≤ notWritten ⌝ }
 {
     let mut program = program_room();
+    let mut start = start_room();
     let mut recorded = record_room();
     let mut text = listing_room();
-    let program_count = read_start(&PROGRAM_FILE, &mut program);
-    let record_count = read_start(&RECORD_FILE, &mut recorded);
+    let program_count = read_front(&PROGRAM_FILE, &mut program);
+    let start_count = read_front(&START_FILE, &mut start);
+    let record_count = read_front(&RECORD_FILE, &mut recorded);
     list(
         &program[..program_count],
+        &start[..start_count],
         &recorded[..record_count],
         &mut text,
     )

@@ -6,14 +6,13 @@ use native.Mathlib.Omega.{arith}
 use lib.ListN.{length}
 use Rattle.model.specs.declared.Header.{Header}
 use Rattle.model.specs.Refusals.{ok}
-use Rattle.model.specs.Machine.{Start}
 use Rattle.model.specs.Checks.{Accepted, accept, verdictOn, listed, answered}
-use Rattle.model.specs.Listings.{line, groupLines, cellLine, join, listingOf, printed, printedOf}
+use Rattle.model.specs.Listings.{join, listingOf, printed, printedOf}
 use Rattle.model.proofs.Lists.{at-position}
 use Rattle.ordering.proofs.Runs.{Listed}
 use Rattle.record_facts.proofs.Bounds.{accepted-bounds}
 use Rattle.memory.specs.Tables.{Table, cellsSize}
-use Rattle.memory.specs.Copies.{tableOf}
+use Rattle.memory.specs.Made.{tableOf}
 use Rattle.graph.specs.Edges.{groupList}
 use Rattle.lines.specs.Lines.{answerLine}
 use Rattle.trails.specs.Trails.{trailOf}
@@ -27,7 +26,7 @@ use Rattle.layout.specs.Lines.{bytesOf, groupLinesOn, cellLinesOn, textLines}
 use Rattle.listing.specs.Told.{textOf, printedVerdict}
 use Rattle.listing.proofs.Lines.{verdict-line, join-append, groups-lines, cells-lines}
 
-module _ (start : Start) (program recorded : List ℕ) (a : Accepted) (accepted : accept start program recorded ≡ ok a) where
+module _ (program start recorded : List ℕ) (a : Accepted) (accepted : accept program start recorded ≡ ok a) where
   abbrev header : Header
   header = a .program .header
 
@@ -41,7 +40,7 @@ module _ (start : Start) (program recorded : List ℕ) (a : Accepted) (accepted 
   cells = tableOf cellsSize (a .run .last .machine .cells)
 
   t : TellableRun (a .run)
-  t = accepted-tellable start program recorded a accepted
+  t = accepted-tellable program start recorded a accepted
 
   lists : Listed (a .run .last .opened) (verdictOn (a .run))
   lists = verdict-lists (a .run) t
@@ -51,7 +50,7 @@ module _ (start : Start) (program recorded : List ℕ) (a : Accepted) (accepted 
   unfolding textOf textLines join bytesOf listingOf
   text-is =
       let v = verdictOn (a .run) in
-      let fits = accepted-bounds start program recorded a accepted .header in
+      let fits = accepted-bounds program start recorded a accepted .header in
       let firsts = firstItems header recorded trail items in
       ap₂ _++_
       (ap answerLine (answer-is v) ∙ verdict-line v)
@@ -61,7 +60,7 @@ module _ (start : Start) (program recorded : List ℕ) (a : Accepted) (accepted 
       (groups-lines (listed v) header recorded firsts (a .run .events) (omega (arith, lists .few, t .opened, t .few))
       (λ i g at.
       let low = lists .low g (at-position (listed v) i at) in
-      accepted-firsts start program recorded a accepted g (omega (arith, low, t .opened, t .few))))
+      accepted-firsts program start recorded a accepted g (omega (arith, low, t .opened, t .few))))
       (ap join (cells-lines (a .run .last .machine .cells) (header .ranks) (header .cells) (fits .ranksFit) (fits .cellsFit))))
 
   -- So what is printed is.

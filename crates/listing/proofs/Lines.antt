@@ -1,5 +1,5 @@
 -- The lines that the code makes for a run that tells its groups are the definition's lines of the run's events and of its last cells.
-use Prim.Native.Nat.{ℕ, zero, suc, _+_, _≤_, _<_, min}
+use Prim.Native.Nat.{ℕ, zero, suc, _+_, _≤_, _<_}
 use mathlib.Core.Path.{_≡_, refl, sym, ap, ap₂, _∙_}
 use mathlib.Core.List.{List, [], _∷_, _++_, map, map-id, append-assoc}
 use mathlib.Core.Option.{some}
@@ -16,7 +16,7 @@ use Rattle.model.specs.Checks.{fill, listed, answered, forEachRank, rankByRank}
 use Rattle.model.specs.Listings.{decimal, line, groupLine, groupLines, cellLine, join, verdictWord}
 use Rattle.model.proofs.Laws.{decided}
 use Rattle.memory.specs.Tables.{Table, cellsSize, numberAt}
-use Rattle.memory.specs.Copies.{tableOf}
+use Rattle.memory.specs.Made.{tableOf}
 use Rattle.memory.proofs.Filled.{made-holds}
 use Rattle.graph.specs.Edges.{groupList}
 use Rattle.graph.proofs.Edges.{read-each, filled-at}

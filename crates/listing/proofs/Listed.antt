@@ -1,4 +1,4 @@
--- The whole listing, by what the replay's answer tells of the definition's acceptance from zeros.
+-- The whole listing, by what the replay's answer tells of the definition's acceptance.
 use Prim.Native.Nat.{ℕ}
 use mathlib.Core.Path.{_≡_, sym, ap, _∙_}
 use mathlib.Core.List.{List}
@@ -7,9 +7,7 @@ use Rattle.model.specs.declared.Refusal.{Refusal}
 use Rattle.model.specs.Refusals.{Result, refused}
 use Rattle.model.specs.Checks.{Accepted, accept}
 use Rattle.model.specs.Listings.{Listing, printedOf, listingIn, listing}
-use Rattle.memory.specs.Tables.{Table, cellsSize, zeros}
-use Rattle.memory.specs.Copies.{startIn}
-use Rattle.memory.proofs.Stores.{zero-start}
+use Rattle.memory.specs.Tables.{Table}
 use Rattle.replay.specs.declared.Acceptance as Acceptance
 use Rattle.replay.specs.declared.Acceptance.{Acceptance}
 use Rattle.replay.specs.Handed.{Lent, HandsOver}
@@ -18,13 +16,13 @@ use Rattle.judging.specs.Told.{verdictTold}
 use Rattle.listing.specs.Told.{printedVerdict}
 use Rattle.listing.proofs.Accepted.{accepted-printed}
 
-module _ (program recorded memory : List ℕ) where
+module _ (program start recorded memory : List ℕ) where
   abbrev acceptance : Result Accepted
-  acceptance = accept (startIn (zeros cellsSize)) program recorded
+  acceptance = accept program start recorded
 
-  from-zeros : {m : Result Accepted} → acceptance ≡ m → printedOf memory m ≡ listing program recorded memory
+  prints-of : {m : Result Accepted} → acceptance ≡ m → printedOf memory m ≡ listing program start recorded memory
   unfolding listingIn
-  from-zeros is = ap (printedOf memory) (sym is) ∙ ap (λ start. printedOf memory (accept start program recorded)) zero-start
+  prints-of is = ap (printedOf memory) (sym is)
 
   -- What is printed of numbers and tables is printed of equal ones.
   abbrev verdictListing : Header → (items groups : ℕ) → (cells trail : Table) → Listing
@@ -38,15 +36,15 @@ module _ (program recorded memory : List ℕ) where
 
   module _ {before after : Lent} {r : Acceptance} {end : Listing} (handed : HandsOver acceptance before after r) where
     pub listed-refusal : {x : Refusal} → r ≡ Acceptance.the-variants.Refused x → end ≡ printedOf memory (refused x) →
-        end ≡ listing program recorded memory
-    listed-refusal found prints = prints ∙ from-zeros (accept-refused acceptance handed found)
+        end ≡ listing program start recorded memory
+    listed-refusal found prints = prints ∙ prints-of (accept-refused acceptance handed found)
 
     pub listed-verdict : {header : Header} {items groups : ℕ} → r ≡ Acceptance.the-variants.Accepted header items groups →
         end ≡ printedVerdict memory (verdictTold groups items (after .trail)) recorded header (after .trail) items (after .cells) →
-        end ≡ listing program recorded memory
+        end ≡ listing program start recorded memory
     listed-verdict found prints =
         let known = accept-found acceptance handed found in
         prints
         ∙ same-listing (known .header-is) (known .items-is) (known .groups-is) (known .cells-is) (known .trail-is)
-        ∙ accepted-printed (startIn (zeros cellsSize)) program recorded (known .a) (known .is) memory
-        ∙ from-zeros (known .is)
+        ∙ accepted-printed program start recorded (known .a) (known .is) memory
+        ∙ prints-of (known .is)

@@ -12,7 +12,7 @@ use Rattle.model.specs.declared.Listed.{Listed}
 use Rattle.model.specs.declared.Refusal.{Refusal}
 use Rattle.model.specs.Refusals.{refused}
 use Rattle.model.specs.Orders.{Verdict}
-use Rattle.model.specs.Checks.{fill, listed, answered}
+use Rattle.model.specs.Checks.{fill, answered}
 use Rattle.model.specs.Listings.{join, refusedLine, printed, printedOf}
 use Rattle.model.proofs.Laws.{when-true, when-false}
 use Rattle.memory.specs.Tables.{Table}

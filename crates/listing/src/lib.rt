@@ -15,10 +15,11 @@ ghost use mathlib.Core.Path.{_≡_};
 ghost use Rattle.model.specs.Listings as listings;
 ghost use Rattle.listing.specs.Told.{printing};
 
-// Lists a record of a program into the front of `text`. The text is written whole or not at all: where `text` is too short, the answer is 15 with the
+// Lists a record of a program from a start into the front of `text`. The text is written whole or not at all: where `text` is too short, the answer is 15 with the
 // length that it would have, and nothing is written.
-pub fn listing(program: &[u8], recorded: &[u8], text: &mut [u8]) -> Listed
-    ensures { λ r. ⌜ printing r (now (text .exit)) ≡ listings.listing (now (program .entry)) (now (recorded .entry)) (now (text .entry)) ⌝ }
+pub fn listing(program: &[u8], start: &[u8], recorded: &[u8], text: &mut [u8]) -> Listed
+    ensures { λ r. ⌜ printing r (now (text .exit)) ≡
+        listings.listing (now (program .entry)) (now (start .entry)) (now (recorded .entry)) (now (text .entry)) ⌝ }
 {
     let mut control = [0; RANKS];
     let mut registers = [[0; REGISTERS]; RANKS];
@@ -26,6 +27,7 @@ pub fn listing(program: &[u8], recorded: &[u8], text: &mut [u8]) -> Listed
     let mut trail = [[0; TOLD]; ITEMS];
     match replay(
         program,
+        start,
         recorded,
         &mut control,
         &mut registers,

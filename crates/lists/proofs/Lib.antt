@@ -3,3 +3,4 @@ pub mod Pasted
 pub mod Ranks
 pub mod Forms
 pub mod Results
+pub mod Parts

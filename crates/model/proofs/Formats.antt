@@ -15,7 +15,7 @@ use borrow.Author.Tests.{lt-ltb, ltb-true}
 use Rattle.model.specs.declared.Header.{Header}
 use Rattle.model.specs.declared.Item.{Item}
 use Rattle.model.specs.declared.Kind.{Kind}
-use Rattle.model.specs.Limits.{byteRanks, maxCells, maxRegisters, maxQueues, maxStates, shortTransitions, longCount, maxItems}
+use Rattle.model.specs.Limits.{maxCells, maxRegisters, maxQueues, maxStates, shortTransitions, longCount, maxItems}
 use Rattle.model.specs.Refusals as Refusals
 use Rattle.model.specs.Refusals.{ok, programLength, programRange, recordLength, recordRange}
 use Rattle.model.specs.Choice.{between, lookup, member}

@@ -6,6 +6,7 @@ pub mod ItemKinds
 pub mod Bytes
 pub mod Faults
 pub mod Standing
+pub mod BigEndian
 pub mod Tables
 pub mod Places
 pub mod Allowances
@@ -20,6 +21,7 @@ pub mod Actions
 pub mod Replay
 pub mod Accepted
 pub mod Lending
+pub mod Entries
 pub mod Listings
 pub mod Samples
 pub mod StarredRuns

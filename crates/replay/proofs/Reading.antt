@@ -1,6 +1,6 @@
 -- Before the items: the program is read, then the start and the record for it, each refused as the definition refuses it.
 use Prim.Native.Nat.{ℕ, _≤_}
-use mathlib.Core.Path.{_≡_, refl}
+use mathlib.Core.Path.{_≡_}
 use mathlib.Core.List.{List}
 use native.Mathlib.Omega.{arith}
 use lib.ListN.{length}
@@ -9,7 +9,7 @@ use Rattle.model.specs.declared.Item.{Item}
 use Rattle.model.specs.declared.Refusal.{Refusal}
 use Rattle.model.specs.Limits.{maxItems}
 use Rattle.model.specs.Refusals.{Result, ok, refused}
-use Rattle.model.specs.Programs.{Program, HeaderFits, readProgram}
+use Rattle.model.specs.Programs.{Program, readProgram}
 use Rattle.model.specs.Records.{readRecord}
 use Rattle.model.specs.Machine.{Start}
 use Rattle.model.specs.StartBytes.{readStart}
@@ -19,13 +19,7 @@ use Rattle.program.proofs.Programs.{Placed}
 use Rattle.record.specs.declared.reader.RecordRead as RecordRead
 use Rattle.record.specs.Places.{Recorded, recordRead}
 use Rattle.step.specs.Standing.{Loaded}
-use Rattle.memory.specs.Tables.{Table, cellsSize}
-use Rattle.memory.specs.Made.{tableOf}
-use Rattle.start_cells.specs.declared.StartRead.{StartRead}
-use Rattle.start_cells.specs.declared.StartRead.the-variants as StartRead
-use Rattle.start_cells.specs.Reading.{cellsRead}
-use Rattle.start_cells.specs.Answers.{startRead, cellsAfter, ReadsInto}
-use Rattle.start_cells.proofs.Readings.{tabled, cells-read}
+use Rattle.memory.specs.Tables.{Table}
 use Rattle.replay.specs.Handed.{Begun, Readable, acceptItems, acceptRecord}
 
 -- A program and the items of a record that were both read.
@@ -43,27 +37,6 @@ pub record-unreadable : (m : Result (List Item)) {x : Refusal} → RecordRead.th
 record-unreadable (ok items) h = let z : _≡_ {A = ℕ} 0 1 = cc in absurd (omega arith)
 record-unreadable (refused y) h = cc
 
--- A start that the reader refuses, and one that it reads into a table.
-module _ (header : Header) (fits : HeaderFits header) (start : List ℕ) {before after : Table} {r : StartRead}
-    (read : ReadsInto (cellsRead header start) before after r) where
-  answers : r ≡ startRead (tabled header fits (readStart header start))
-  answers = rw (cells-read header fits start) at (read .answers)
-
-  pub start-unreadable : {x : Refusal} → r ≡ StartRead.Refused x → readStart header start ≡ refused x
-  start-unreadable {x} is = go (readStart header start) answers
-    where
-      go : (m : Result Start) → r ≡ startRead (tabled header fits m) → m ≡ refused x
-      go (ok readings) h = let z : _≡_ {A = ℕ} 0 1 = cc in absurd (omega arith)
-      go (refused y) h = cc
-
-  pub start-readable : r ≡ StartRead.Readable → (readings : Start) × (readStart header start ≡ ok readings) × (after ≡ tableOf cellsSize readings)
-  start-readable is = go (readStart header start) answers (rw (cells-read header fits start) at (read .leaves))
-    where
-      go : (m : Result Start) → r ≡ startRead (tabled header fits m) → after ≡ cellsAfter (tabled header fits m) before →
-          (readings : Start) × (m ≡ ok readings) × (after ≡ tableOf cellsSize readings)
-      go (ok readings) h leaves = (readings, refl, leaves)
-      go (refused y) h leaves = let z : _≡_ {A = ℕ} 0 1 = cc in absurd (omega arith)
-
 -- The definition's `accept`, where the program, the start or the record is refused, and where all are read.
 module _ (program start recorded : List ℕ) where
   pub program-refused : {x : Refusal} → readProgram program ≡ refused x → accept program start recorded ≡ refused x
@@ -71,9 +44,9 @@ module _ (program start recorded : List ℕ) where
   program-refused h = rw h
 
   module _ {P : Program} {header : Header} (read : readProgram program ≡ ok P) (same : P .header ≡ header) where
-    pub start-refused : {x : Refusal} → readStart header start ≡ refused x → accept program start recorded ≡ refused x
+    pub start-unread : {x : Refusal} → readStart header start ≡ refused x → accept program start recorded ≡ refused x
     unfolding acceptIn
-    start-refused h = rw (read, same, h)
+    start-unread h = rw (read, same, h)
 
     pub start-taken : {readings : Start} → readStart header start ≡ ok readings → accept program start recorded ≡ acceptRecord P readings recorded
     unfolding acceptIn acceptRecord acceptItems

@@ -123,7 +123,16 @@ fn replay_record(
     match read_record(recorded, header) {
         RecordRead::Refused(refusal) => Acceptance::Refused(refusal),
         RecordRead::Readable { count } => replay_items(
-            program, starts, header, recorded, count, begun, control, registers, cells, trail,
+            program,
+            starts,
+            header,
+            recorded,
+            count,
+            begun,
+            control,
+            registers,
+            cells,
+            trail,
         ),
     }
 }
@@ -154,7 +163,15 @@ pub fn replay(
             match start_cells(start, header, &mut begun) {
                 StartRead::Refused(refusal) => Acceptance::Refused(refusal),
                 StartRead::Readable => replay_record(
-                    program, &starts, header, recorded, &mut begun, control, registers, cells, trail,
+                    program,
+                    &starts,
+                    header,
+                    recorded,
+                    &mut begun,
+                    control,
+                    registers,
+                    cells,
+                    trail,
                 ),
             }
         }

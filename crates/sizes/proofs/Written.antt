@@ -1,13 +1,13 @@
 -- No slip is longer than its map with a count for each rank of the largest machine, and no start than its maps with a reading for each cell.
-use Prim.Native.Nat.{ℕ, zero, suc, _+_, _*_, _/_, _%_, _≤_}
-use mathlib.Core.Path.{_≡_, refl}
-use mathlib.Core.List.{List, [], _∷_}
+use Prim.Native.Nat.{ℕ, zero, suc, _+_, _*_, _≤_}
+use mathlib.Core.Path.{_≡_}
+use mathlib.Core.List.{List}
 use native.Mathlib.Nat.{suc-mul}
 use native.Mathlib.Omega.{arith}
 use lib.Dec.{ltb}
 use lib.ListN.{length, length-append}
 use Rattle.model.specs.declared.Header.{Header}
-use Rattle.model.specs.Limits.{byteRanks, byteValues, mapSize}
+use Rattle.model.specs.Limits.{byteRanks, mapSize}
 use Rattle.model.specs.Refusals.{ok}
 use Rattle.model.specs.Choice.{numbersFrom}
 use Rattle.model.specs.Bytes.{wordBytes, bigEndianBytes}
@@ -18,6 +18,7 @@ use Rattle.model.specs.StartBytes.{rankBytes, ranksBytes, startBytes}
 use Rattle.model.specs.Checks.{Accepted, accept}
 use Rattle.model.specs.Slips.{mapBytes, slipOf}
 use Rattle.model.proofs.Laws.{decided}
+use Rattle.model.proofs.BigEndian.{big-length}
 use Rattle.record_facts.proofs.Bounds.{accepted-bounds}
 use Rattle.sizes.specs.Sizes.{maxStartBytes, maxSlipBytes}
 use Rattle.sizes.proofs.Readings.{rankSize, ranks-size}
@@ -50,13 +51,6 @@ slip-short program start recorded a h =
       marked-short taken 1 ranks,
       fits,
     )
-
--- A rank's map has eight bytes, whatever it is.
-big-length : (size n : ℕ) → length (bigEndianBytes size n) ≡ size
-unfolding bigEndianBytes
-big-length zero n = refl
-big-length (suc size) n =
-    omega (arith, length-append (bigEndianBytes size (n / byteValues)) (n % byteValues ∷ []), big-length size (n / byteValues))
 
 rank-short : (cells : ℕ) (readings : ℕ → ℕ) → length (rankBytes cells readings) ≤ rankSize cells
 unfolding rankBytes

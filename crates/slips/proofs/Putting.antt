@@ -1,11 +1,10 @@
 -- The slip put into lent bytes: nothing where they are too few, and else the map and behind it the counts.
 use Prim.Native.Nat.{ℕ, _-_, _*_, _/_, _%_, _≤_, _<_}
 use mathlib.Core.Path.{_≡_, sym, ap, ap₂, _∙_}
-use mathlib.Core.List.{List, [], _∷_, _++_, append-nil, append-assoc}
+use mathlib.Core.List.{List, [], _∷_, _++_}
 use native.Mathlib.Omega.{arith}
 use lib.Count.{ones}
 use lib.ListN.{length, set, drop, length-append, length-drop}
-use lib.Seq.{take-length, drop-length, drop-drop, take-at, drop-at}
 use borrow.Author.Tests.{lt-ltb, le-ltb}
 use borrow.Rule.Slice.PartMut.{midOf, putMid}
 use Rattle.model.specs.declared.Filled.the-variants.{Entries, Refused}
@@ -15,33 +14,13 @@ use Rattle.model.specs.Checks.{fill, entryBytes}
 use Rattle.model.specs.Lending.{lend, answering}
 use Rattle.lists.specs.Written.{wordsWritten}
 use Rattle.lists.proofs.Results.{group-words-written}
+use Rattle.lists.proofs.Parts.{part-is, part-put, fill-behind}
 use Rattle.marked.specs.Maps.{noValues}
 use Rattle.marking.specs.Marking.{mapOf, valuesOf}
 use Rattle.marking.proofs.Writing.{map-small, values-ones}
 use Rattle.slips.specs.Writing.{mapLength, slipLength, mapWritten, slipFrom}
 use Rattle.model.proofs.Lending.{lends, lends-nothing}
 use Rattle.slips.proofs.Writing.{map-length-some, written-length, slip-length}
-
--- The part behind a front: what it is, and that the front stays where it is changed.
-module _ (front rest : List ℕ) {behind : ℕ} (long : length front ≡ behind) where
-  part-length : length (front ++ rest) - behind ≡ length rest
-  part-length = omega (arith, length-append front rest, long)
-
-  part-is : midOf behind (length (front ++ rest) - behind) (front ++ rest) ≡ rest
-  part-is = rw (part-length, drop-at front rest behind long) (take-length rest)
-
-  part-put : (part : List ℕ) → putMid behind (length (front ++ rest) - behind) (front ++ rest) part ≡ front ++ part
-  part-put part =
-      rw (part-length, take-at front rest behind long, drop-at front rest behind long, drop-length rest)
-      (ap (λ l. front ++ l) (append-nil part))
-
--- Entries that fill the bytes behind a front fill all bytes with the front.
-fill-behind : (front new bytes : List ℕ) → front ++ fill new (drop (length front) bytes) ≡ fill (front ++ new) bytes
-unfolding fill
-fill-behind front new bytes =
-    sym (append-assoc front new (drop (length new) (drop (length front) bytes)))
-    ∙ ap (λ l. (front ++ new) ++ l)
-    (drop-drop (length new) (length front) bytes ∙ ap (λ n. drop n bytes) (sym (length-append front new)))
 
 -- The map in its one byte or two.
 module _ (ranks : ℕ) (slip : List ℕ) (room : mapLength ranks ≤ length slip) where

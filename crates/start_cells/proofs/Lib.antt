@@ -2,3 +2,4 @@
 pub mod MapBytes
 pub mod RowTurns
 pub mod Readings
+pub mod Told

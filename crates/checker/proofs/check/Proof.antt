@@ -15,7 +15,7 @@ returns c =
     let atGroups = atOrder .before .before in
     let atConcluded = atGroups .before .before .before .before in
     let atBytes = atConcluded .before .before .before .before in
-    checks numbers _ _ _ _ (λ i. omega (arith, atBytes .shared-slice-known2 .given i)) (atConcluded .conclude .ensures)
+    checks numbers _ _ _ _ _ (λ i. omega (arith, atBytes .shared-slice-known3 .given i)) (atConcluded .conclude .ensures)
     (atGroups .write-numbers .ensures) (atCells .write-cells .ensures)
 
 pub check-spec : {M : Type 1} → statement M

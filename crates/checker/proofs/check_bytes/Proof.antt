@@ -15,7 +15,7 @@ returns c =
     let atGroups = atOrder .before .before in
     let atConcluded = atGroups .before .before .before .before in
     let atBytes = atConcluded .before .before .before .before in
-    checks bytes _ _ _ _ (λ i. omega (arith, atBytes .shared-slice-known2 .given i)) (atConcluded .conclude .ensures)
+    checks bytes _ _ _ _ _ (λ i. omega (arith, atBytes .shared-slice-known3 .given i)) (atConcluded .conclude .ensures)
     (atGroups .write-words .ensures) (atCells .write-cell-words .ensures)
 
 pub check-bytes-spec : {M : Type 1} → statement M

@@ -7,7 +7,7 @@ use Rattle.list_run.proofs.list.Statement.{statement}
 use Rattle.list_run.proofs.list.Tie as tie
 
 fits : tie.Need-slice-reshare-prefix-print
-fits c = listing-fits _ _ _ (c .before .before .listing .ensures)
+fits c = listing-fits _ _ _ _ (c .before .before .listing .ensures)
 
 counts : tie.Need-slice-aggregate-print
 counts c = sym (length-take-le _ _ (fits (c .before)))
@@ -16,7 +16,7 @@ returns : tie.Need-returns
 returns c =
     let atPrint = c .before in
     let atListing = atPrint .before .before .before in
-    runs _ _ _ (atListing .listing .ensures) (c .print .ensures)
+    runs _ _ _ _ (atListing .listing .ensures) (c .print .ensures)
 
 pub list-spec : {M : Type 1} → statement M
 list-spec =

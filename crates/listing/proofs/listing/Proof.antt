@@ -8,14 +8,14 @@ returns : tie.Need-returns
 returns c =
     let atPrinted = c .before .before in
     let atFound = atPrinted .before .before .before in
-    listed-refusal _ _ _ (atFound .before .before .replay .ensures) (atFound .refusal .given .1) (atPrinted .print-refused .ensures)
+    listed-refusal _ _ _ _ (atFound .before .before .replay .ensures) (atFound .refusal .given .1) (atPrinted .print-refused .ensures)
 
 returns-2 : tie.Need-returns-2
 returns-2 c =
     let atPrinted = c .before .before in
     let atArgs = atPrinted .before .before .before in
     let atFound = atArgs .before .before in
-    listed-verdict _ _ _ (atFound .before .before .replay .ensures) (atFound .header .given .1) (atPrinted .print-verdict .ensures)
+    listed-verdict _ _ _ _ (atFound .before .before .replay .ensures) (atFound .header .given .1) (atPrinted .print-verdict .ensures)
 
 pub listing-spec : {M : Type 1} → statement M
 listing-spec =

@@ -3,7 +3,8 @@ use mathlib.Core.Path.{sym, _∙_}
 use borrow.Author.Needs.{needs}
 use Rattle.program.proofs.Programs.{readable, unreadable}
 use Rattle.replay.proofs.Handed.{refuses}
-use Rattle.replay.proofs.Reading.{program-refused, start-unreadable, start-readable, start-refused, start-taken, placed-loaded, loaded-by}
+use Rattle.start_cells.proofs.Told.{start-refused, start-readable}
+use Rattle.replay.proofs.Reading.{program-refused, start-unread, start-taken, placed-loaded, loaded-by}
 use Rattle.replay.proofs.replay.Statement.{statement}
 use Rattle.replay.proofs.replay.Tie as tie
 
@@ -22,7 +23,7 @@ returns-2 c =
     let (P, read, placed) = readable _ (sym (atRead .read-program .ensures .answer) ∙ atAnswer .answer2 .given .1) in
     let fits = placed-loaded read placed .fits in
     refuses _ _
-    (start-refused _ _ _ read (placed .same) (start-unreadable _ fits _ (atStart .start-cells .ensures) (atRefusal .refusal .given .1)))
+    (start-unread _ _ _ read (placed .same) (start-refused _ fits _ (atStart .start-cells .ensures) (atRefusal .refusal .given .1)))
 
 -- The start that was read, and the program before it.
 abbrev atTold : tie.After-replay-record → tie.After-enum-told
@@ -36,10 +37,10 @@ returns-3 c =
     let promise = atRead .read-program .ensures in
     let (P, read, placed) = readable _ (sym (promise .answer) ∙ atAnswer .answer2 .given .1) in
     let loaded = placed-loaded read placed in
-    let (readings, found, table) = start-readable _ (loaded .fits) _ (atStart .start-cells .ensures) (atTold c .enum-told .given .1) in
-    rw (start-taken _ _ _ read (placed .same) found)
+    let (readings, begun) = start-readable _ (loaded .fits) _ (atStart .start-cells .ensures) (atTold c .enum-told .given .1) in
+    rw (start-taken _ _ _ read (placed .same) (begun .is))
     (c .replay-record .ensures
-    (record { P = P; loaded = loaded-by (promise .starts) loaded; readings = readings; table = table }))
+    (record { P = P; loaded = loaded-by (promise .starts) loaded; readings = readings; table = begun .holds }))
 
 pub replay-spec : {M : Type 1} → statement M
 replay-spec =
