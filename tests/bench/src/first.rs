@@ -9,6 +9,8 @@ pub const RING: u8 = 255;
 type Fills = unsafe extern "C" fn(
     program: *const u8,
     program_length: usize,
+    start: *const u8,
+    start_length: usize,
     record: *const u8,
     record_length: usize,
     memory: *mut u8,
@@ -21,6 +23,8 @@ extern "C" {
     fn lellmusu_check(
         program: *const u8,
         program_length: usize,
+        start: *const u8,
+        start_length: usize,
         record: *const u8,
         record_length: usize,
         order: *mut u8,
@@ -33,6 +37,8 @@ extern "C" {
     fn lellmusu_list(
         program: *const u8,
         program_length: usize,
+        start: *const u8,
+        start_length: usize,
         record: *const u8,
         record_length: usize,
         text: *mut u8,
@@ -43,6 +49,8 @@ extern "C" {
     fn lellmusu_write_slip(
         program: *const u8,
         program_length: usize,
+        start: *const u8,
+        start_length: usize,
         record: *const u8,
         record_length: usize,
         slip: *mut u8,
@@ -52,13 +60,21 @@ extern "C" {
 }
 
 /// The whole check on lent bytes: the number and the value that it tells.
-pub fn check(program: &[u8], record: &[u8], order: &mut [u8], cells: &mut [u8]) -> (u8, usize) {
+pub fn check(
+    program: &[u8],
+    start: &[u8],
+    record: &[u8],
+    order: &mut [u8],
+    cells: &mut [u8],
+) -> (u8, usize) {
     let mut value = 0;
     // Each pointer comes from a reference of its own, and each length is that of its slice.
     let number = unsafe {
         lellmusu_check(
             program.as_ptr(),
             program.len(),
+            start.as_ptr(),
+            start.len(),
             record.as_ptr(),
             record.len(),
             order.as_mut_ptr(),
@@ -72,13 +88,21 @@ pub fn check(program: &[u8], record: &[u8], order: &mut [u8], cells: &mut [u8]) 
 }
 
 /// A function that fills one area, on lent bytes.
-fn fill(function: Fills, program: &[u8], record: &[u8], memory: &mut [u8]) -> (u8, usize) {
+fn fill(
+    function: Fills,
+    program: &[u8],
+    start: &[u8],
+    record: &[u8],
+    memory: &mut [u8],
+) -> (u8, usize) {
     let mut value = 0;
     // As above.
     let number = unsafe {
         function(
             program.as_ptr(),
             program.len(),
+            start.as_ptr(),
+            start.len(),
             record.as_ptr(),
             record.len(),
             memory.as_mut_ptr(),
@@ -90,11 +114,11 @@ fn fill(function: Fills, program: &[u8], record: &[u8], memory: &mut [u8]) -> (u
 }
 
 /// The listing.
-pub fn list(program: &[u8], record: &[u8], text: &mut [u8]) -> (u8, usize) {
-    fill(lellmusu_list, program, record, text)
+pub fn list(program: &[u8], start: &[u8], record: &[u8], text: &mut [u8]) -> (u8, usize) {
+    fill(lellmusu_list, program, start, record, text)
 }
 
 /// The slip's writer.
-pub fn write_slip(program: &[u8], record: &[u8], slip: &mut [u8]) -> (u8, usize) {
-    fill(lellmusu_write_slip, program, record, slip)
+pub fn write_slip(program: &[u8], start: &[u8], record: &[u8], slip: &mut [u8]) -> (u8, usize) {
+    fill(lellmusu_write_slip, program, start, record, slip)
 }

@@ -1,8 +1,8 @@
 //! The times of check, listing and slip writer, proved and compiled, beside the second program's, on the same bytes.
 //!
-//! Prints two lines for each function and shape of records, and for the check on programs with a record of no items; the time of a call on run b,
-//! which is one small record; and whether the first program's time grows in step with the items, or with the transitions. Ends with 1 if it does
-//! not, or if the two programs disagree on an input.
+//! Prints two lines for each function and shape of records, and for the check on programs and on starts with a record of no items; the time of a
+//! call on run b, which is one small record, and of the check on run b from a few readings; and whether the first program's time grows in step with
+//! the items, with the transitions, or with the readings. Ends with 1 if it does not, or if the two programs disagree on an input.
 
 mod first;
 mod mixed;
@@ -22,19 +22,30 @@ use std::time::Instant;
 const LENGTHS: [usize; 2] = [512, 1024];
 /// The transitions of the programs that are read: the most, and half of it.
 const TRANSITIONS: [usize; 2] = [200, 400];
-/// How many times the cost of a record or program one of twice the length may have.
+/// The readings of the starts that are read: the most, which is 64 at each of 16 ranks, and half of it.
+const READINGS: [usize; 2] = [512, 1024];
+/// The cells of a rank with readings in all of them.
+const CELLS: usize = 64;
+/// How many times the cost of a record, program or start one of twice the length may have.
 const MOST_GROWTH: f64 = 2.2;
 /// Run b of document 01: the sample that `make sample` lists.
 const RUN_B: (&[u8], &[u8]) = (
     include_bytes!("../../../samples/neighbour/run.prg"),
     include_bytes!("../../../samples/neighbour/run.rec"),
 );
+/// A start for run b: rank 1 has a reading in cell 0, and rank 2 in both cells. Its load sees no reading.
+const FEW_READINGS: [u8; 22] = [
+    0, 0, 0, 0, 0, 0, 0, 1, 0, 40, 0, 0, 0, 0, 0, 0, 0, 3, 0, 50, 0, 60,
+];
 /// Batches of each program, of which the median is taken.
 const BATCHES: usize = 21;
 /// Calls in a batch: of the first program on long records, of the second on them, and of both on run b.
 const FIRST_CALLS: usize = 200;
 const SECOND_CALLS: usize = 2;
 const RUN_B_CALLS: usize = 20_000;
+/// Calls in a batch on programs, as above, and of both programs on starts.
+const PROGRAM_CALLS: [usize; 2] = [FIRST_CALLS, SECOND_CALLS];
+const START_CALLS: [usize; 2] = [2_000, 2_000];
 /// Bytes that are enough for every answer.
 const ORDER_BYTES: usize = 2 * 1024;
 const CELL_BYTES: usize = 2 * 16 * 64;
@@ -42,7 +53,7 @@ const TEXT_BYTES: usize = 44_043;
 
 /// What is measured.
 const MEASURED: &str = "\
-A call, in microseconds, from program and record bytes to all that it fills, which is enough for every answer.
+A call, in microseconds, from program, start and record bytes to all that it fills, which is enough for every answer.
 check, listing, slip: the whole check, the listing, the slip's writer.
 first:  lellmusu_check, lellmusu_list and lellmusu_write_slip of the static library, proved.
 second: tests/second. Its work for each group grows with the groups. Built for release, without the overflow checks that
@@ -50,7 +61,8 @@ second: tests/second. Its work for each group grows with the groups. Built for r
 mixed:  one item in three is a transfer's command, of all ranks and queues, done at once or waiting in many ways.
 falling, rising, ring: two ranks; arrows that fall, none that fall, and a ring of all groups.
 named:  sixteen transfers wait in one queue, each for another rank, and each pop names the rank whose entry stands last.
-program: so many transitions, each a write of constants, and a record of no items.";
+program: so many transitions, each a write of constants, and a record of no items.
+start:  so many readings, 64 at each rank, and a record of no items. All others but one are from no start bytes.";
 
 /// A shape of records: its name, its program, what a record of so many items does, and its verdict.
 struct Shape {
@@ -96,6 +108,7 @@ const SHAPES: [Shape; 5] = [
 /// What both programs are given, and the memory that they fill.
 struct Input {
     program: Vec<u8>,
+    start: Vec<u8>,
     record: Vec<u8>,
     order: Vec<u8>,
     cells: Vec<u8>,
@@ -112,10 +125,11 @@ struct Work {
 const WORKS: [Work; 3] = [
     Work {
         name: "check",
-        first: |i| first::check(&i.program, &i.record, &mut i.order, &mut i.cells),
+        first: |i| first::check(&i.program, &i.start, &i.record, &mut i.order, &mut i.cells),
         second: |i| {
             told(check_bytes(
                 &i.program,
+                &i.start,
                 &i.record,
                 &mut i.order,
                 &mut i.cells,
@@ -124,17 +138,17 @@ const WORKS: [Work; 3] = [
     },
     Work {
         name: "listing",
-        first: |i| first::list(&i.program, &i.record, &mut i.text),
+        first: |i| first::list(&i.program, &i.start, &i.record, &mut i.text),
         second: |i| {
-            let told = listed(&i.program, &i.record, &mut i.text);
+            let told = listed(&i.program, &i.start, &i.record, &mut i.text);
             (told.number, told.value)
         },
     },
     Work {
         name: "slip",
-        first: |i| first::write_slip(&i.program, &i.record, &mut i.text),
+        first: |i| first::write_slip(&i.program, &i.start, &i.record, &mut i.text),
         second: |i| {
-            let told = slip_written(&i.program, &i.record, &mut i.text);
+            let told = slip_written(&i.program, &i.start, &i.record, &mut i.text);
             (told.number, told.value)
         },
     },
@@ -168,9 +182,10 @@ fn bytes_of(program: &Program, acts: Vec<Act>) -> Vec<u8> {
 
 impl Input {
     /// These bytes, with enough memory.
-    fn new(program: Vec<u8>, record: Vec<u8>) -> Input {
+    fn new(program: Vec<u8>, start: Vec<u8>, record: Vec<u8>) -> Input {
         Input {
             program,
+            start,
             record,
             order: vec![0; ORDER_BYTES],
             cells: vec![0; CELL_BYTES],
@@ -182,7 +197,7 @@ impl Input {
     fn of(shape: &Shape, items: usize) -> Input {
         let program = (shape.program)();
         let record = bytes_of(&program, (shape.acts)(&program, items));
-        Input::new(program.to_bytes(), record)
+        Input::new(program.to_bytes(), Vec::new(), record)
     }
 
     /// Clears the memory, calls, and gives what was told and filled.
@@ -305,37 +320,63 @@ fn program_of(transitions: usize) -> Vec<u8> {
     program
 }
 
-/// Measures the check on programs with a record of no items.
-fn reading(work: &Work) -> Result<bool, String> {
-    let mut inputs = TRANSITIONS.map(|count| Input::new(program_of(count), vec![0, 0]));
-    for input in &mut inputs {
-        if input.agreed(work)? != first::ORDER {
-            return Err("a program that cannot be read".to_string());
-        }
-    }
-    let times = measure(work, &mut inputs, FIRST_CALLS, SECOND_CALLS);
-    Ok(in_step(
-        &format!("{:7} program", work.name),
-        TRANSITIONS,
-        &times,
-    ))
+/// A program and a start of it with so many readings, 64 at each rank: one register, queue and state, and no transitions.
+fn program_and_start_of(readings: usize) -> (Vec<u8>, Vec<u8>) {
+    let ranks = readings / CELLS;
+    let program = vec![ranks as u8, CELLS as u8, 1, 1, 1, 0];
+    let rank = [&[255; 8][..], &[1, 2].repeat(CELLS)].concat();
+    (program, rank.repeat(ranks))
 }
 
-/// Measures a function on run b.
-fn run_b(work: &Work) -> Result<(), String> {
+/// Measures the check on programs with a record of no items.
+fn programs(work: &Work) -> Result<bool, String> {
+    let input = |count| Input::new(program_of(count), Vec::new(), vec![0, 0]);
+    reading(work, "program", TRANSITIONS, PROGRAM_CALLS, input)
+}
+
+/// Measures the check on starts with a record of no items.
+fn starts(work: &Work) -> Result<bool, String> {
+    let input = |readings| {
+        let (program, start) = program_and_start_of(readings);
+        Input::new(program, start, vec![0, 0])
+    };
+    reading(work, "start", READINGS, START_CALLS, input)
+}
+
+/// Measures a function on inputs of two lengths with a record of no items, and says whether the first program's time grows in step with them.
+fn reading(
+    work: &Work,
+    what: &str,
+    lengths: [usize; 2],
+    [first_calls, second_calls]: [usize; 2],
+    input: impl Fn(usize) -> Input,
+) -> Result<bool, String> {
+    let mut inputs = lengths.map(input);
+    for input in &mut inputs {
+        if input.agreed(work)? != first::ORDER {
+            return Err(format!("a {what} that cannot be read"));
+        }
+    }
+    let times = measure(work, &mut inputs, first_calls, second_calls);
+    let name = format!("{:7} {what:7}", work.name);
+    Ok(in_step(&name, lengths, &times))
+}
+
+/// Measures a function on run b from these start bytes.
+fn run_b(work: &Work, from: &str, start: &[u8]) -> Result<(), String> {
     let (program, record) = RUN_B;
-    let mut input = Input::new(program.to_vec(), record.to_vec());
+    let mut input = Input::new(program.to_vec(), start.to_vec(), record.to_vec());
     input.agreed(work)?;
     let Times { first, second } = measure(work, &mut [input], RUN_B_CALLS, RUN_B_CALLS)[0];
     println!(
-        "{:7} run b: a call costs first {first:.2} us, second {second:.2} us, first/second {:.2}",
+        "{:7} run b{from}: a call costs first {first:.2} us, second {second:.2} us, first/second {:.2}",
         work.name,
         first / second
     );
     Ok(())
 }
 
-/// Measures all functions on all shapes and on run b, and the check on programs.
+/// Measures all functions on all shapes and on run b, and the check on run b from readings, on programs and on starts.
 fn bench() -> Result<bool, String> {
     println!("{MEASURED}");
     println!("Each time is the median of {BATCHES} batches, programs and lengths by turns, after a batch to warm up.");
@@ -345,9 +386,11 @@ fn bench() -> Result<bool, String> {
         for shape in &SHAPES {
             linear &= measured(work, shape)?;
         }
-        run_b(work)?;
+        run_b(work, "", &[])?;
     }
-    linear &= reading(&WORKS[0])?;
+    run_b(&WORKS[0], " from 3 readings", &FEW_READINGS)?;
+    linear &= programs(&WORKS[0])?;
+    linear &= starts(&WORKS[0])?;
     Ok(linear)
 }
 

@@ -16,7 +16,7 @@ use theorems::Theorem;
 const LONGEST: usize = 160;
 
 /// Of longer ones, which the checker computes slowly, the runs that are an order or a ring are computed by the check alone: programs of up to so
-/// many bytes, 400 short transitions among them, with records of up to so many.
+/// many bytes, 400 short transitions among them, with starts and records of up to so many together.
 const LONGEST_PROGRAM: usize = 1_700;
 const LONGEST_RECORD: usize = 130;
 
@@ -37,6 +37,7 @@ use Rattle.model.specs.declared.Filled.{Filled}
 use Rattle.model.specs.Formats.{itemMaps}
 use Rattle.model.specs.Checks.{checkIn, check, checkBytesIn, checkBytes}
 use Rattle.model.specs.Slips.{writeSlipIn, writeSlip, readSlipIn, readSlip}
+use Rattle.model.specs.Starts.{writeStart, writeStartBytes, readStartInto, readStartIntoBytes}
 use Rattle.model.specs.Listings.{listingIn, listing}
 ";
 
@@ -45,13 +46,25 @@ type Named<'a> = (&'a str, Theorem);
 
 /// The theorems of a case, the one with this number; none if it is too long.
 fn theorems_of(number: usize, case: &Case) -> Vec<Theorem> {
-    let Case::Check(check) = case else {
-        return theorems::of_case(number, case);
-    };
-    match (check.program.len(), check.record.len()) {
-        (program, record) if program + record <= LONGEST => theorems::of_case(number, case),
-        (0..=LONGEST_PROGRAM, 0..=LONGEST_RECORD) => theorems::of_run(check).into_iter().collect(),
+    match (length_of(case), case) {
+        (0..=LONGEST, _) => theorems::of_case(number, case),
+        (_, Case::Check(check))
+            if check.program.len() <= LONGEST_PROGRAM
+                && check.start.len() + check.record.len() <= LONGEST_RECORD =>
+        {
+            theorems::of_run(check).into_iter().collect()
+        }
         _ => vec![],
+    }
+}
+
+/// How many bytes go into a case, two for each entry of a list that is read.
+fn length_of(case: &Case) -> usize {
+    match case {
+        Case::Check(case) => case.program.len() + case.start.len() + case.record.len(),
+        Case::Slip(case) => case.slip.len(),
+        Case::StartWrite(case) => case.program.len() + 2 * case.cells.len(),
+        Case::StartRead(case) => case.program.len() + case.start.len(),
     }
 }
 
@@ -81,14 +94,15 @@ fn copy_model(from: &Path, to: &Path) -> Result<(), String> {
     Ok(())
 }
 
-/// What a definition computes by, in today's format. The slip's reader reads no items.
+/// What a definition computes by, in today's format. Slip reader and starts have no items, and starts are today's alone.
 fn unfolded(definition: &str) -> String {
-    let maps = if definition == "readSlip" {
-        ""
-    } else {
-        "itemMaps "
-    };
-    format!("{maps}{definition}In")
+    match definition {
+        "readSlip" => String::from("readSlipIn"),
+        "writeStart" | "writeStartBytes" | "readStartInto" | "readStartIntoBytes" => {
+            String::from(definition)
+        }
+        _ => format!("itemMaps {definition}In"),
+    }
 }
 
 /// The text of a file of theorems.

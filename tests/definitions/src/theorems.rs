@@ -1,6 +1,6 @@
 //! What is stated of each case: the definition's whole result on the case's input, lent memory included.
 
-use second::corpus::{Case, CheckCase, Expected, SlipCase};
+use second::corpus::{Case, CheckCase, Expected, SlipCase, StartReadCase, StartWriteCase};
 use second::limits::{number, Refusal};
 
 /// That a definition, applied to arguments, gives a result.
@@ -84,9 +84,10 @@ fn bytes_of(numbers: &[u16]) -> Vec<u16> {
         .collect()
 }
 
-/// The input of a check case, as the first two arguments.
+/// The input of a check case, as the first three arguments.
 fn input(case: &CheckCase) -> String {
-    format!("{} {}", list(&case.program), list(&case.record))
+    let (program, start, record) = (&case.program, &case.start, &case.record);
+    format!("{} {} {}", list(program), list(start), list(record))
 }
 
 /// The whole check on these two lists, by the definition for entries or by that for bytes.
@@ -139,7 +140,7 @@ fn checked(case: &CheckCase) -> Vec<Theorem> {
     all
 }
 
-/// A slip written or read: how many entries are filled, or the refusal.
+/// A slip or a start written or read: how many entries are filled, or the refusal.
 fn filled(
     definition: &'static str,
     input: &str,
@@ -229,6 +230,43 @@ fn slip_read(case: &SlipCase) -> Theorem {
     )
 }
 
+/// A start written, from a list of entries and from one of bytes, with an odd one behind.
+fn start_written(case: &StartWriteCase) -> Vec<Theorem> {
+    let written = case.answer.clone().unwrap_or_default();
+    let memory = Lent {
+        length: case.start_bytes,
+        written: written.into_iter().map(u16::from).collect(),
+    };
+    let answer = case.answer.as_ref().map(Vec::len).map_err(|why| *why);
+    let mut bytes = bytes_of(&case.cells);
+    bytes.push(7);
+    [("writeStart", &case.cells), ("writeStartBytes", &bytes)]
+        .map(|(definition, cells)| {
+            let input = format!("{} {}", list(&case.program), list(cells));
+            filled(definition, &input, answer, &memory)
+        })
+        .into()
+}
+
+/// A start read, into a list of entries and into one of bytes, with an odd one behind.
+fn start_read(case: &StartReadCase) -> Vec<Theorem> {
+    let written = case.answer.clone().unwrap_or_default();
+    let answer = case.answer.as_ref().map(Vec::len).map_err(|why| *why);
+    let input = format!("{} {}", list(&case.program), list(&case.start));
+    let bytes = Lent {
+        length: 2 * case.cell_entries + 1,
+        written: bytes_of(&written),
+    };
+    let entries = Lent {
+        length: case.cell_entries,
+        written,
+    };
+    vec![
+        filled("readStartInto", &input, answer, &entries),
+        filled("readStartIntoBytes", &input, answer, &bytes),
+    ]
+}
+
 /// The check on lists of entries, of a case that is an order or a ring.
 pub fn of_run(case: &CheckCase) -> Option<Theorem> {
     match case.answer {
@@ -242,6 +280,8 @@ pub fn of_run(case: &CheckCase) -> Option<Theorem> {
 pub fn of_case(number: usize, case: &Case) -> Vec<Theorem> {
     let case = match case {
         Case::Slip(case) => return vec![slip_read(case)],
+        Case::StartWrite(case) => return start_written(case),
+        Case::StartRead(case) => return start_read(case),
         Case::Check(case) => case,
     };
     let mut theorems = checked(case);

@@ -38,10 +38,10 @@ struct Bounded<'a> {
 }
 
 /// Judges a verdict by the bounded search; says whether it came to an end.
-pub fn judge_bounded(accepted: &Accepted, start: &Start, limit: usize) -> Result<bool, String> {
-    match find_bounded(&accepted.program, start, &accepted.run, limit) {
-        Found::Run(items) => judge_found(accepted, start, Some(items)).map(|()| true),
-        Found::Nothing => judge_found(accepted, start, None).map(|()| true),
+pub fn judge_bounded(accepted: &Accepted, limit: usize) -> Result<bool, String> {
+    match find_bounded(&accepted.program, &accepted.start, &accepted.run, limit) {
+        Found::Run(items) => judge_found(accepted, Some(items)).map(|()| true),
+        Found::Nothing => judge_found(accepted, None).map(|()| true),
         Found::GaveUp => Ok(false),
     }
 }

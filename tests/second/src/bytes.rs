@@ -9,7 +9,8 @@ pub struct ByteReader<'a> {
     bytes: &'a [u8],
     /// The place of the next unread byte.
     at: usize,
-    /// The number for an early end and for bytes left over: 1 or 4, and 16 for a slip.
+    /// The number for an early end and for bytes left over: 1 or 4, 16 for a slip, and 19 for
+    /// start bytes.
     length_number: u8,
 }
 
@@ -88,6 +89,12 @@ pub fn below(count: usize) -> RangeInclusive<usize> {
     } else {
         0..=count - 1
     }
+}
+
+/// The 16-bit numbers of big-endian bytes, two an entry; an odd last byte is left out.
+pub fn words_of(bytes: &[u8]) -> Vec<u16> {
+    let word = |entry: &[u8]| u16::from_be_bytes([entry[0], entry[1]]);
+    bytes.chunks_exact(2).map(word).collect()
 }
 
 /// Writes 16-bit numbers as big-endian bytes over the first entries of a lent list.

@@ -8,6 +8,7 @@ use crate::order::{decide, Verdict};
 use crate::program::Program;
 use crate::record::{read_record, Item};
 use crate::replay::replay;
+use crate::start::start_of;
 
 /// An answer of the whole check; order and ring carry the count of entries filled.
 #[derive(Debug, Clone, Copy, PartialEq, Eq)]
@@ -25,6 +26,8 @@ pub enum Answer {
 pub struct Accepted {
     /// The program.
     pub program: Program,
+    /// The start.
+    pub start: Start,
     /// The record's items.
     pub items: Vec<Item>,
     /// The run they make.
@@ -35,23 +38,23 @@ pub struct Accepted {
     pub verdict: Verdict,
 }
 
-/// Reads program and record, replays from document 01's start, and decides; refuses with 1 to 13
-/// or 18.
-pub fn accept(program: &[u8], record: &[u8]) -> Outcome<Accepted> {
+/// Reads program, start and record, replays, and decides; refuses with 1 to 13, 18 or 19.
+pub fn accept(program: &[u8], start: &[u8], record: &[u8]) -> Outcome<Accepted> {
     let program = Program::read(program)?;
+    let start = start_of(&program, start)?;
     let items = read_record(record, &program)?;
-    let start = Start::zero(&program);
-    accept_items(program, items, &start)
+    accept_items(program, start, items)
 }
 
 /// Replays items that have been read from a start, and decides; refuses with 7 to 13 or 18.
-pub fn accept_items(program: Program, items: Vec<Item>, start: &Start) -> Outcome<Accepted> {
-    let run = replay(&program, start, &items)?;
+pub fn accept_items(program: Program, start: Start, items: Vec<Item>) -> Outcome<Accepted> {
+    let run = replay(&program, &start, &items)?;
     let grouping = gather(&run.steps);
     let arrows = arrows(&run.steps, &grouping.group_of);
     let verdict = decide(grouping.groups.len(), &arrows);
     Ok(Accepted {
         program,
+        start,
         items,
         run,
         grouping,
@@ -80,8 +83,14 @@ pub struct Filled {
 }
 
 /// The answer with its entries, for lists of so many entries; nothing is filled on a refusal.
-pub fn answer(program: &[u8], record: &[u8], order_entries: usize, cell_entries: usize) -> Filled {
-    filled(accept(program, record), order_entries, cell_entries)
+pub fn answer(
+    program: &[u8],
+    start: &[u8],
+    record: &[u8],
+    order_entries: usize,
+    cell_entries: usize,
+) -> Filled {
+    filled(accept(program, start, record), order_entries, cell_entries)
 }
 
 /// The answer with its entries for what was accepted or refused.
@@ -125,16 +134,28 @@ fn fit(accepted: &Accepted, order_entries: usize, cell_entries: usize) -> Outcom
 }
 
 /// The whole check on lent lists of 16-bit entries.
-pub fn check(program: &[u8], record: &[u8], order: &mut [u16], cells: &mut [u16]) -> Answer {
-    let filled = answer(program, record, order.len(), cells.len());
+pub fn check(
+    program: &[u8],
+    start: &[u8],
+    record: &[u8],
+    order: &mut [u16],
+    cells: &mut [u16],
+) -> Answer {
+    let filled = answer(program, start, record, order.len(), cells.len());
     order[..filled.groups.len()].copy_from_slice(&filled.groups);
     cells[..filled.cells.len()].copy_from_slice(&filled.cells);
     filled.answer
 }
 
 /// The whole check on lent bytes, two an entry, big-endian; an odd last byte is never used.
-pub fn check_bytes(program: &[u8], record: &[u8], order: &mut [u8], cells: &mut [u8]) -> Answer {
-    fill_bytes(accept(program, record), order, cells)
+pub fn check_bytes(
+    program: &[u8],
+    start: &[u8],
+    record: &[u8],
+    order: &mut [u8],
+    cells: &mut [u8],
+) -> Answer {
+    fill_bytes(accept(program, start, record), order, cells)
 }
 
 /// Fills lent bytes with what was accepted, if they are long enough, and answers.

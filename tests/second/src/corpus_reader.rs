@@ -1,6 +1,6 @@
 //! Reading the corpus form; every fault names its line.
 
-use crate::corpus::{Case, CheckCase, Expected, SlipCase};
+use crate::corpus::{Case, CheckCase, Expected, SlipCase, StartReadCase, StartWriteCase};
 use crate::limits::{number::ALL, Refusal};
 use std::collections::BTreeSet;
 use std::fs;
@@ -64,6 +64,11 @@ impl<'a> Lines<'a> {
     /// Takes a line with bytes in hexadecimal, or a dash for none.
     fn bytes(&mut self, key: &str) -> Result<Vec<u8>, String> {
         let value = self.take(key)?;
+        self.hex(value)
+    }
+
+    /// Reads bytes in hexadecimal, or a dash for none.
+    fn hex(&self, value: &str) -> Result<Vec<u8>, String> {
         if value == "-" {
             return Ok(Vec::new());
         }
@@ -93,7 +98,7 @@ impl<'a> Lines<'a> {
         };
         match parsed {
             Some((number, place)) if ALL.contains(&number) => Ok(Refusal { number, place }),
-            _ => self.fault("a refusal has a number from 1 to 16, or 18, and a place"),
+            _ => self.fault("a refusal has a number from 1 to 16, 18 or 19, and a place"),
         }
     }
 }
@@ -115,6 +120,8 @@ pub fn parse(text: &str) -> Result<Vec<Case>, String> {
     while let Some(key) = lines.next_key() {
         let case = match key {
             "slip-case" => Case::Slip(slip_case(&mut lines)?),
+            "start-write-case" => Case::StartWrite(start_write_case(&mut lines)?),
+            "start-read-case" => Case::StartRead(start_read_case(&mut lines)?),
             _ => Case::Check(check_case(&mut lines)?),
         };
         if !names.insert(case.name().to_string()) {
@@ -129,6 +136,10 @@ pub fn parse(text: &str) -> Result<Vec<Case>, String> {
 fn check_case(lines: &mut Lines) -> Result<CheckCase, String> {
     let name = lines.take("case")?.to_string();
     let program = lines.bytes("program")?;
+    let mut start = Vec::new();
+    if lines.next_key() == Some("start") {
+        start = lines.bytes("start")?;
+    }
     let record = lines.bytes("record")?;
     let order_entries = lines.number("order-entries")?;
     let cell_entries = lines.number("cell-entries")?;
@@ -157,6 +168,7 @@ fn check_case(lines: &mut Lines) -> Result<CheckCase, String> {
     Ok(CheckCase {
         name,
         program,
+        start,
         record,
         order_entries,
         cell_entries,
@@ -185,6 +197,51 @@ fn slip_case(lines: &mut Lines) -> Result<SlipCase, String> {
         ranks,
         slip,
         counts_entries,
+        answer,
+    })
+}
+
+/// Reads one case of the writer of start bytes.
+fn start_write_case(lines: &mut Lines) -> Result<StartWriteCase, String> {
+    let name = lines.take("start-write-case")?.to_string();
+    let program = lines.bytes("program")?;
+    let value = lines.take("cells")?;
+    let cells = lines.words(value.split(' ').filter(|word| !word.is_empty()))?;
+    let start_bytes = lines.number("start-bytes")?;
+    let words: Vec<&str> = lines.take("answer")?.split(' ').collect();
+    let answer = match words[..] {
+        ["start", hex] => Ok(lines.hex(hex)?),
+        ["refused", ..] => Err(lines.refusal(&words[1..])?),
+        _ => return lines.fault("this is no answer of a writer of start bytes"),
+    };
+    lines.take("end")?;
+    Ok(StartWriteCase {
+        name,
+        program,
+        cells,
+        start_bytes,
+        answer,
+    })
+}
+
+/// Reads one case of the reader of start bytes.
+fn start_read_case(lines: &mut Lines) -> Result<StartReadCase, String> {
+    let name = lines.take("start-read-case")?.to_string();
+    let program = lines.bytes("program")?;
+    let start = lines.bytes("start")?;
+    let cell_entries = lines.number("cell-entries")?;
+    let words: Vec<&str> = lines.take("answer")?.split(' ').collect();
+    let answer = match words[0] {
+        "cells" => Ok(lines.words(words[1..].iter().copied())?),
+        "refused" => Err(lines.refusal(&words[1..])?),
+        other => return lines.fault(format!("`{other}` is no answer of a reader of start bytes")),
+    };
+    lines.take("end")?;
+    Ok(StartReadCase {
+        name,
+        program,
+        start,
+        cell_entries,
         answer,
     })
 }

@@ -1,15 +1,17 @@
 //! Comparing a subject's slip writer, slip reader and listing with what is right: what they tell,
-//! and every lent byte, with memory of many lengths.
+//! and every lent byte, with memory of many lengths. `start_extras` does so for its functions of
+//! start bytes.
 
 use crate::corpus::{to_hex, CheckCase, Expected, SlipCase};
 use crate::harness::{inner, lent, Entry, GUARD};
-use crate::limits::{number, Refusal, MAX_RANKS};
+use crate::limits::{number, Outcome, Refusal, MAX_RANKS};
 use crate::listing::{write_listing, Said};
 use crate::slip::{read_slip, write_slip};
+use crate::start_extras::{compare_starts_of, start_read, start_written};
 use std::collections::{BTreeMap, BTreeSet};
 use std::fmt;
 
-/// What is told of an order, and of a slip written or read.
+/// What is told of an order, and of a slip or start bytes written or read.
 pub const DONE: u8 = 0;
 /// What is told of a ring.
 pub const RING: u8 = 255;
@@ -19,7 +21,7 @@ pub const RING: u8 = 255;
 pub struct Told {
     /// 0, 255 for a ring, or a refusal's number.
     pub number: u8,
-    /// Bytes written, counts filled, or a refusal's place; for a listing the bytes of its text.
+    /// Bytes written, entries filled, or a refusal's place; for a listing the bytes of its text.
     pub value: usize,
 }
 
@@ -32,10 +34,37 @@ impl From<Refusal> for Told {
     }
 }
 
-/// A slip writer or a listing: program, record, lent bytes.
-pub type Writer<'a> = &'a dyn Fn(&[u8], &[u8], &mut [u8]) -> Told;
+/// A slip writer or a listing: program, start, record, lent bytes.
+pub type Writer<'a> = &'a dyn Fn(&[u8], &[u8], &[u8], &mut [u8]) -> Told;
 /// A slip reader: N, slip, lent counts.
 pub type Reader<'a> = &'a dyn Fn(usize, &[u8], &mut [u16]) -> Told;
+/// A writer of start bytes: program, the bytes of a cell list, lent bytes. Or a reader of them:
+/// program, start bytes, the bytes of a lent cell list.
+pub type Starter<'a> = &'a dyn Fn(&[u8], &[u8], &mut [u8]) -> Told;
+
+/// The functions beside the check, to be lent slices.
+#[derive(Clone, Copy)]
+pub struct Functions<'a> {
+    /// The slip writer.
+    pub write_slip: Writer<'a>,
+    /// The slip reader.
+    pub read_slip: Reader<'a>,
+    /// The listing.
+    pub list: Writer<'a>,
+    /// The writer of start bytes.
+    pub write_start: Starter<'a>,
+    /// The reader of start bytes.
+    pub read_start: Starter<'a>,
+}
+
+/// The second program's.
+pub const SECOND: Functions<'static> = Functions {
+    write_slip: &slip_written,
+    read_slip: &slip_read,
+    list: &listed,
+    write_start: &start_written,
+    read_start: &start_read,
+};
 
 /// What a function told, and the lent memory afterwards with the guards around it.
 #[derive(Debug, Clone, PartialEq, Eq)]
@@ -46,10 +75,14 @@ pub struct Seen<E> {
     pub memory: Vec<E>,
 }
 
-/// Lends so many fresh bytes to a writer, calls it on program and record, and notes what it does.
-pub type WriterObserver<'a> = Box<dyn Fn(&[u8], &[u8], usize) -> Seen<u8> + 'a>;
+/// Lends so many fresh bytes to a writer, calls it on program, start and record, and notes what it
+/// does.
+pub type WriterObserver<'a> = Box<dyn Fn(&[u8], &[u8], &[u8], usize) -> Seen<u8> + 'a>;
 /// Lends so many fresh counts to a reader, calls it on N and slip, and notes what it does.
 pub type ReaderObserver<'a> = Box<dyn Fn(usize, &[u8], usize) -> Seen<u16> + 'a>;
+
+/// Lends so many fresh bytes to a function of start bytes, calls it, and notes what it does.
+pub type StartObserver<'a> = Box<dyn Fn(&[u8], &[u8], usize) -> Seen<u8> + 'a>;
 
 /// A subject's functions beside the check, with the way memory is lent to them.
 pub struct Extras<'a> {
@@ -59,59 +92,71 @@ pub struct Extras<'a> {
     pub read_slip: ReaderObserver<'a>,
     /// The listing.
     pub list: WriterObserver<'a>,
+    /// The writer of start bytes.
+    pub write_start: StartObserver<'a>,
+    /// The reader of start bytes.
+    pub read_start: StartObserver<'a>,
+}
+
+/// Lends so many fresh entries between guards, has them filled, and notes what was done.
+fn observed<E: Entry>(entries: usize, fill: impl FnOnce(&mut [E]) -> Told) -> Seen<E> {
+    let mut memory = lent(entries);
+    let told = fill(inner(&mut memory));
+    Seen { told, memory }
 }
 
 impl<'a> Extras<'a> {
     /// Functions that are lent slices between guards.
-    pub fn between_guards(
-        write_slip: Writer<'a>,
-        read_slip: Reader<'a>,
-        list: Writer<'a>,
-    ) -> Extras<'a> {
+    pub fn between_guards(functions: Functions<'a>) -> Extras<'a> {
         let writer = |subject: Writer<'a>| -> WriterObserver<'a> {
-            Box::new(move |program, record, bytes| {
-                let mut memory = lent(bytes);
-                let told = subject(program, record, inner(&mut memory));
-                Seen { told, memory }
+            Box::new(move |program, start, record, bytes| {
+                observed(bytes, |memory| subject(program, start, record, memory))
+            })
+        };
+        let starter = |subject: Starter<'a>| -> StartObserver<'a> {
+            Box::new(move |program, given, bytes| {
+                observed(bytes, |memory| subject(program, given, memory))
             })
         };
         Extras {
-            write_slip: writer(write_slip),
+            write_slip: writer(functions.write_slip),
             read_slip: Box::new(move |ranks, slip, entries| {
-                let mut memory = lent(entries);
-                let told = read_slip(ranks, slip, inner(&mut memory));
-                Seen { told, memory }
+                observed(entries, |counts| (functions.read_slip)(ranks, slip, counts))
             }),
-            list: writer(list),
+            list: writer(functions.list),
+            write_start: starter(functions.write_start),
+            read_start: starter(functions.read_start),
         }
     }
 
     /// The second program's.
     pub fn second() -> Extras<'static> {
-        Extras::between_guards(&slip_written, &slip_read, &listed)
+        Extras::between_guards(SECOND)
     }
 }
 
-/// The second program's slip writer, told as the library tells it.
-pub fn slip_written(program: &[u8], record: &[u8], memory: &mut [u8]) -> Told {
-    write_slip(program, record, memory).map_or_else(Told::from, |value| Told {
+/// What is told of a refusal, or of so many bytes written or entries filled.
+pub(crate) fn told(outcome: Outcome<usize>) -> Told {
+    outcome.map_or_else(Told::from, |value| Told {
         number: DONE,
         value,
     })
 }
 
+/// The second program's slip writer, told as the library tells it.
+pub fn slip_written(program: &[u8], start: &[u8], record: &[u8], memory: &mut [u8]) -> Told {
+    told(write_slip(program, start, record, memory))
+}
+
 /// The second program's slip reader, told as the library tells it.
 pub fn slip_read(ranks: usize, slip: &[u8], counts: &mut [u16]) -> Told {
-    read_slip(ranks, slip, counts).map_or_else(Told::from, |()| Told {
-        number: DONE,
-        value: ranks,
-    })
+    told(read_slip(ranks, slip, counts).map(|()| ranks))
 }
 
 /// The second program's listing, told as the library tells it: with 15 the bytes needed, with any
 /// other number the bytes written.
-pub fn listed(program: &[u8], record: &[u8], memory: &mut [u8]) -> Told {
-    let listed = write_listing(program, record, memory);
+pub fn listed(program: &[u8], start: &[u8], record: &[u8], memory: &mut [u8]) -> Told {
+    let listed = write_listing(program, start, record, memory);
     let number = match listed.said {
         Said::Order => DONE,
         Said::Ring => RING,
@@ -131,7 +176,7 @@ const PAST_16_BITS: usize = 65_535;
 
 /// The lengths to lend where so much is needed: none, one, all around it, much more, and so much
 /// more that 16 bits do not hold it.
-fn lengths(needed: usize) -> BTreeSet<usize> {
+pub(crate) fn lengths(needed: usize) -> BTreeSet<usize> {
     let around = needed.saturating_sub(2)..=needed + 2;
     around
         .chain([0, 1, needed + MUCH_LONGER, needed + PAST_16_BITS])
@@ -139,14 +184,14 @@ fn lengths(needed: usize) -> BTreeSet<usize> {
 }
 
 /// What is right where this is told and the first entries are filled.
-fn right<E: Entry>(told: Told, filled: &[E], entries: usize) -> Seen<E> {
+pub(crate) fn right<E: Entry>(told: Told, filled: &[E], entries: usize) -> Seen<E> {
     let mut memory = lent(entries);
     inner(&mut memory)[..filled.len()].copy_from_slice(filled);
     Seen { told, memory }
 }
 
 /// What is right where this number is told if all entries needed fit, and else 15.
-fn fitted<E: Entry>(number: u8, needed: &[E], entries: usize) -> Seen<E> {
+pub(crate) fn fitted<E: Entry>(number: u8, needed: &[E], entries: usize) -> Seen<E> {
     let value = needed.len();
     if entries < value {
         let number = number::MEMORY_SHORT;
@@ -156,13 +201,13 @@ fn fitted<E: Entry>(number: u8, needed: &[E], entries: usize) -> Seen<E> {
 }
 
 /// One call of one function, for whoever reads of a disagreement.
-struct Called<'a> {
+pub(crate) struct Called<'a> {
     /// The function.
-    function: &'static str,
+    pub function: &'static str,
     /// Its input as text, made if it is needed.
-    input: &'a dyn Fn() -> String,
+    pub input: &'a dyn Fn() -> String,
     /// The entries lent.
-    entries: usize,
+    pub entries: usize,
 }
 
 /// How the slip writer is called in what is printed.
@@ -175,7 +220,7 @@ pub const LISTING: &str = "listing";
 impl Called<'_> {
     /// Counts what the subject told if it is right, and else says what differs. Memory is printed
     /// up to the last entry that either changed.
-    fn agree<E: Entry>(
+    pub fn agree<E: Entry>(
         &self,
         subject: Seen<E>,
         right: Seen<E>,
@@ -220,11 +265,12 @@ fn escaped(bytes: &[u8]) -> String {
     bytes.escape_ascii().to_string()
 }
 
-/// Compares a subject's slip writer and listing with what a case holds, and has its slip reader
-/// read the case's slip; the case's two lists have no part in it.
+/// Compares a subject's slip writer and listing with what a case holds, has its functions of start
+/// bytes read the case's start and write its last cells, and its slip reader read the case's slip.
 pub fn compare_extras(subject: &Extras, case: &CheckCase, tally: &mut Tally) -> Result<(), String> {
     compare_slip_writer(subject, case, tally)?;
     compare_listing(subject, case, tally)?;
+    compare_starts_of(subject, case, tally)?;
     let Some(slip) = &case.slip else {
         return Ok(());
     };
@@ -236,13 +282,13 @@ pub fn compare_extras(subject: &Extras, case: &CheckCase, tally: &mut Tally) -> 
     compare_slip_reader(subject, &own, tally)
 }
 
-/// Program and record of a case, to be printed.
+/// Program, start and record of a case, to be printed.
 fn input_of(case: &CheckCase) -> String {
-    let (program, record) = (to_hex(&case.program), to_hex(&case.record));
-    format!("program {program}\nrecord {record}")
+    let [program, start, record] = [&case.program, &case.start, &case.record].map(|b| to_hex(b));
+    format!("program {program}\nstart {start}\nrecord {record}")
 }
 
-/// The refusal of a case whose program or record is refused.
+/// The refusal of a case whose program, start or record is refused.
 fn refusal_of(case: &CheckCase) -> Option<Refusal> {
     match case.answer {
         Expected::Refused(refusal) if case.slip.is_none() => Some(refusal),
@@ -280,7 +326,7 @@ pub fn compare_slip(
         input: &|| input_of(case),
         entries,
     };
-    let seen = (subject.write_slip)(&case.program, &case.record, entries);
+    let seen = (subject.write_slip)(&case.program, &case.start, &case.record, entries);
     called.agree(seen, right, to_hex, tally)
 }
 
@@ -310,7 +356,7 @@ pub fn compare_text(
         input: &|| input_of(case),
         entries,
     };
-    let seen = (subject.list)(&case.program, &case.record, entries);
+    let seen = (subject.list)(&case.program, &case.start, &case.record, entries);
     called.agree(seen, right, escaped, tally)
 }
 

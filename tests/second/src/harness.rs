@@ -8,8 +8,8 @@ use crate::limits::{number, Refusal};
 use std::collections::BTreeMap;
 use std::fmt;
 
-/// A whole check: program, record, order bytes, cell bytes; two bytes an entry, big-endian.
-pub type Subject<'a> = &'a dyn Fn(&[u8], &[u8], &mut [u8], &mut [u8]) -> Answer;
+/// A whole check: program, start, record, order bytes, cell bytes; two bytes an entry, big-endian.
+pub type Subject<'a> = &'a dyn Fn(&[u8], &[u8], &[u8], &mut [u8], &mut [u8]) -> Answer;
 
 /// Lends fresh lists to some check, calls it on an input, and notes what it does.
 pub type Observer<'a> = &'a dyn Fn(&Input) -> Observed;
@@ -71,6 +71,7 @@ impl fmt::Debug for Observed {
 impl fmt::Display for Input {
     fn fmt(&self, out: &mut fmt::Formatter) -> fmt::Result {
         writeln!(out, "program {}", to_hex(&self.program))?;
+        writeln!(out, "start {}", to_hex(&self.start))?;
         writeln!(out, "record {}", to_hex(&self.record))?;
         writeln!(out, "order bytes {}", self.order_bytes)?;
         write!(out, "cell bytes {}", self.cell_bytes)
@@ -115,6 +116,7 @@ fn observe(subject: Subject, input: &Input) -> Observed {
     let mut cells = lent(input.cell_bytes);
     let answer = subject(
         &input.program,
+        &input.start,
         &input.record,
         inner(&mut order),
         inner(&mut cells),
@@ -164,6 +166,7 @@ pub fn compare_odd(
 pub fn input_of(case: &CheckCase, odd: usize) -> Input {
     Input {
         program: case.program.clone(),
+        start: case.start.clone(),
         record: case.record.clone(),
         order_bytes: 2 * case.order_entries + odd,
         cell_bytes: 2 * case.cell_entries + odd,
@@ -204,6 +207,8 @@ pub struct Histogram {
     pub rings: usize,
     /// Slips read.
     pub slips: usize,
+    /// Start bytes written or read.
+    pub starts: usize,
     /// Refusals by number, and by place under each number.
     pub refused: BTreeMap<u8, BTreeMap<usize, usize>>,
 }
@@ -223,6 +228,14 @@ impl Histogram {
     pub fn count_slip(&mut self, answer: Result<(), Refusal>) {
         match answer {
             Ok(()) => self.slips += 1,
+            Err(refusal) => self.count_refusal(refusal),
+        }
+    }
+
+    /// Counts an answer of the writer or the reader of start bytes.
+    pub fn count_start(&mut self, answer: Result<(), Refusal>) {
+        match answer {
+            Ok(()) => self.starts += 1,
             Err(refusal) => self.count_refusal(refusal),
         }
     }
@@ -247,6 +260,7 @@ impl fmt::Display for Histogram {
         writeln!(out, "order of 0  {:8}", self.empty_orders)?;
         writeln!(out, "rings       {:8}", self.rings)?;
         writeln!(out, "slips read  {:8}", self.slips)?;
+        writeln!(out, "starts      {:8}", self.starts)?;
         for number in number::ALL {
             let places = self.refused.get(&number).map_or(0, BTreeMap::len);
             let times = self.refusals(number);

@@ -257,9 +257,9 @@ pub fn written_out(accepted: &Accepted, order: &[usize]) -> Vec<Item> {
 }
 
 /// Judges an order: written out it must be a plain run with the trace, values and last contents.
-pub fn judge_order(accepted: &Accepted, start: &Start, order: &[usize]) -> Result<(), String> {
+pub fn judge_order(accepted: &Accepted, order: &[usize]) -> Result<(), String> {
     let items = written_out(accepted, order);
-    let Some(plain) = plain_run(&accepted.program, start, &items) else {
+    let Some(plain) = plain_run(&accepted.program, &accepted.start, &items) else {
         return Err("the order written out is no plain run".into());
     };
     if !same_trace(&plain, &accepted.run) {
@@ -278,11 +278,7 @@ pub fn judge_order(accepted: &Accepted, start: &Start, order: &[usize]) -> Resul
 
 /// Judges a verdict by demand 3, with the plain run that a search found, if there is any: a ring
 /// exactly when no plain run has the trace, and else the order with the lowest groups first.
-pub fn judge_found(
-    accepted: &Accepted,
-    start: &Start,
-    found: Option<Vec<Item>>,
-) -> Result<(), String> {
+pub fn judge_found(accepted: &Accepted, found: Option<Vec<Item>>) -> Result<(), String> {
     match (&accepted.verdict, found) {
         (Verdict::Ring(_), None) => Ok(()),
         (Verdict::Ring(ring), Some(_)) => {
@@ -292,7 +288,7 @@ pub fn judge_found(
             Err(format!("order {order:?}, but no plain run has the trace"))
         }
         (Verdict::Order(order), Some(found)) => {
-            judge_order(accepted, start, order)?;
+            judge_order(accepted, order)?;
             if unnamed_acts(&found) != unnamed_acts(&written_out(accepted, order)) {
                 return Err(format!(
                     "order {order:?}, but another takes lower groups first"
@@ -310,7 +306,7 @@ fn unnamed_acts(items: &[Item]) -> Vec<Act> {
 }
 
 /// Judges a verdict by the exhaustive search.
-pub fn judge(accepted: &Accepted, start: &Start) -> Result<(), String> {
-    let found = find_plain_run(&accepted.program, start, &accepted.run);
-    judge_found(accepted, start, found)
+pub fn judge(accepted: &Accepted) -> Result<(), String> {
+    let found = find_plain_run(&accepted.program, &accepted.start, &accepted.run);
+    judge_found(accepted, found)
 }

@@ -8,11 +8,11 @@ use crate::groups::gather;
 use crate::harness::{inner, lent, Observed};
 use crate::judge::judge;
 use crate::limits::{Outcome, Refusal};
-use crate::machine::Start;
 use crate::order::Verdict;
 use crate::program::Program;
 use crate::record::read_record;
 use crate::replay::replay;
+use crate::start::start_of;
 use std::collections::BTreeSet;
 use std::fmt;
 
@@ -24,7 +24,7 @@ pub fn judge_observed(input: &Input, observed: &Observed) -> Result<Verdict, Str
     let accepted = accepted_with(input, verdict)
         .map_err(|refusal| format!("the record is no run of the program: {refusal:?}"))?;
     judge_numbers(&accepted.verdict, accepted.grouping.groups.len())?;
-    judge(&accepted, &Start::zero(&accepted.program))?;
+    judge(&accepted)?;
     judge_ring(&accepted.verdict)?;
     judge_lists(input, observed, &accepted)?;
     Ok(accepted.verdict)
@@ -54,11 +54,13 @@ fn verdict_of(observed: &Observed) -> Result<Verdict, String> {
 /// The input's run with a verdict from elsewhere; no arrows are drawn.
 fn accepted_with(input: &Input, verdict: Verdict) -> Outcome<Accepted> {
     let program = Program::read(&input.program)?;
+    let start = start_of(&program, &input.start)?;
     let items = read_record(&input.record, &program)?;
-    let run = replay(&program, &Start::zero(&program), &items)?;
+    let run = replay(&program, &start, &items)?;
     let grouping = gather(&run.steps);
     Ok(Accepted {
         program,
+        start,
         items,
         run,
         grouping,

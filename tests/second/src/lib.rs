@@ -1,5 +1,5 @@
-//! Document 01 and document 02's #102, #105, #107 and #108 once more, by another road: a second
-//! implementation, simple and literal, with an exhaustive judge, a generator, a corpus and a
+//! Document 01 and document 02's #102, #103, #105, #107 and #108 once more, by another road: a
+//! second implementation, simple and literal, with an exhaustive judge, a generator, a corpus and a
 //! harness.
 
 #![forbid(unsafe_code)]
@@ -27,3 +27,5 @@ pub mod program;
 pub mod record;
 pub mod replay;
 pub mod slip;
+pub mod start;
+pub mod start_extras;

@@ -1,5 +1,5 @@
-//! The limits of document 01 and of document 02's #105 and #107, and what a refusal is; #102 and
-//! #108 move no limit.
+//! The limits of document 01 and of document 02's #105 and #107, and what a refusal is; #102, #103
+//! and #108 move no limit.
 
 /// The largest N; ranks run from 1 to N.
 pub const MAX_RANKS: usize = 16;
@@ -24,7 +24,7 @@ pub const MAX_TOKENS: usize = 15;
 /// The largest number of items in a record, and the largest count in a slip.
 pub const MAX_ITEMS: usize = 1024;
 
-/// The numbers of document 01's table of refusals, and of #102, by name.
+/// The numbers of document 01's table of refusals, and of #102 and #103, by name.
 pub mod number {
     /// The program ends early or has bytes left over.
     pub const PROGRAM_LENGTH: u8 = 1;
@@ -55,23 +55,26 @@ pub mod number {
     pub const LEFT: u8 = 13;
     /// The order list is shorter than the group count.
     pub const ORDER_SHORT: u8 = 14;
-    /// The cell list, slip, counts or listing memory is too short.
+    /// The cell list, slip, counts, listing or start memory is too short.
     pub const MEMORY_SHORT: u8 = 15;
     /// A slip is not as document 01 says.
     pub const SLIP: u8 = 16;
     /// An expression has no value; 17 is not used here.
     pub const NO_VALUE: u8 = 18;
+    /// Start bytes are not as #103 says.
+    pub const START: u8 = 19;
 
     /// All numbers there are.
-    pub const ALL: [u8; 17] = [
-        1, 2, 3, 4, 5, 6, 7, 8, 9, 10, 11, 12, 13, 14, 15, 16, NO_VALUE,
+    pub const ALL: [u8; 18] = [
+        1, 2, 3, 4, 5, 6, 7, 8, 9, 10, 11, 12, 13, 14, 15, 16, NO_VALUE, START,
     ];
 }
 
-/// A refusal holds its number and its place, as the table of document 01 and #102 give them.
+/// A refusal holds its number and its place, as the table of document 01, #102 and #103
+/// give them.
 #[derive(Debug, Clone, Copy, PartialEq, Eq)]
 pub struct Refusal {
-    /// The number: 1 to 16, or 18.
+    /// The number: 1 to 16, 18 or 19.
     pub number: u8,
     /// A byte, an item, an item count, or the entries or bytes needed.
     pub place: usize,

@@ -48,10 +48,10 @@ pub fn lines_of(accepted: &Accepted) -> String {
     text
 }
 
-/// The whole text of the listing, and what it says: an order, a ring, or a refusal with 1 to 13 or
-/// 18.
-pub fn listing_text(program: &[u8], record: &[u8]) -> (String, Said) {
-    match accept(program, record) {
+/// The whole text of the listing, and what it says: an order, a ring, or a refusal with 1 to 13, 18
+/// or 19.
+pub fn listing_text(program: &[u8], start: &[u8], record: &[u8]) -> (String, Said) {
+    match accept(program, start, record) {
         Ok(accepted) => {
             let said = match accepted.verdict {
                 Verdict::Order(_) => Said::Order,
@@ -67,8 +67,8 @@ pub fn listing_text(program: &[u8], record: &[u8]) -> (String, Said) {
 }
 
 /// Writes the listing into lent memory; memory too short for all lines is 15 and stays untouched.
-pub fn write_listing(program: &[u8], record: &[u8], memory: &mut [u8]) -> Listed {
-    let (text, said) = listing_text(program, record);
+pub fn write_listing(program: &[u8], start: &[u8], record: &[u8], memory: &mut [u8]) -> Listed {
+    let (text, said) = listing_text(program, start, record);
     let Some(lent) = memory.get_mut(..text.len()) else {
         let short = Refusal {
             number: number::MEMORY_SHORT,
@@ -86,8 +86,8 @@ pub fn write_listing(program: &[u8], record: &[u8], memory: &mut [u8]) -> Listed
     }
 }
 
-/// The listing program: the text for `run.prg` and `run.rec` of a directory.
+/// The listing program: the text for `run.prg`, `run.sta` and `run.rec` of a directory.
 pub fn listing_of_directory(directory: &Path) -> String {
     let bytes = |name: &str| fs::read(directory.join(name)).unwrap_or_default();
-    listing_text(&bytes("run.prg"), &bytes("run.rec")).0
+    listing_text(&bytes("run.prg"), &bytes("run.sta"), &bytes("run.rec")).0
 }

@@ -99,6 +99,21 @@ impl Start {
         };
         Start(vec![rank; program.ranks])
     }
+
+    /// The start with these cells, of which there are N × A at least, rank 1 first; else as document
+    /// 01's.
+    pub fn with_cells(program: &Program, cells: &[u16]) -> Start {
+        let mut start = Start::zero(program);
+        for (rank, cells) in start.0.iter_mut().zip(cells.chunks_exact(program.cells)) {
+            rank.cells.copy_from_slice(cells);
+        }
+        start
+    }
+
+    /// All cells, rank 1 first, as the check fills a cell list.
+    pub fn cells(&self) -> Vec<u16> {
+        self.0.iter().flat_map(|rank| rank.cells.clone()).collect()
+    }
 }
 
 /// The present state of one rank.

@@ -40,8 +40,13 @@ fn read_map(reader: &mut ByteReader, ranks: usize) -> Outcome<usize> {
 }
 
 /// Writes the slip into lent memory and gives its length; refuses as the check, then 15 only.
-pub fn write_slip(program: &[u8], record: &[u8], memory: &mut [u8]) -> Outcome<usize> {
-    let slip = slip_of(&accept(program, record)?);
+pub fn write_slip(
+    program: &[u8],
+    start: &[u8],
+    record: &[u8],
+    memory: &mut [u8],
+) -> Outcome<usize> {
+    let slip = slip_of(&accept(program, start, record)?);
     if memory.len() < slip.len() {
         return refuse(number::MEMORY_SHORT, slip.len());
     }

@@ -118,10 +118,40 @@ fn a_disagreement_ends_with_status_1() {
         ("answer counts 0 7 0", "answer counts 7 0 0"),
         &[
             "the slip reader differs",
-            "slip case slip-second-of-3",
+            "slip-case slip-second-of-3",
             "ranks 3",
             "slip 020007",
             "lent entries 3",
+        ],
+    );
+    assert_disagreement(
+        "starts.txt",
+        (
+            "answer ring 3 4 5\ncells 1 2 2 1",
+            "answer ring 3 4 5\ncells 1 2 2 2",
+        ),
+        &["case starts-run-b", "start 0000000000000003001e0007"],
+    );
+    assert_disagreement(
+        "starts.txt",
+        (
+            "answer start 00000000000000010007",
+            "answer start 00000000000000010008",
+        ),
+        &[
+            "the start writer differs",
+            "start-write-case start-write-1-by-1-exact",
+            "program 010101010100",
+            "cells 0007",
+        ],
+    );
+    assert_disagreement(
+        "starts.txt",
+        ("answer cells 1 2 2 1", "answer cells 1 2 2 2"),
+        &[
+            "the start reader differs",
+            "start-read-case start-read-2-by-2-exact",
+            "start 0000000000000003000100020000000000000003",
         ],
     );
 }
@@ -216,6 +246,23 @@ fn one_case_is_shown_for_a_person() {
 }
 
 #[test]
+fn a_case_is_shown_with_its_start() {
+    let shown = |name| {
+        let output = harness(&["show", &format!("{}/starts.txt", vectors()), name]);
+        String::from_utf8_lossy(&output.stdout).into_owned()
+    };
+    let right = "starts-run-d: as the file says\nstart 0000000000000001ffff\n\
+        answer order [0] cells [65535, 0]\norder 1\ngroup 0 write 1 0\ncell 1 0 65535\n";
+    assert_eq!(shown("starts-run-d"), right);
+    let right = "start-read-cut: as the file says\nstart 000000000000000000000000000000\n\
+        answer Err(Refusal { number: 19, place: 15 })\n";
+    assert_eq!(shown("start-read-cut"), right);
+    let right = "start-write-1-by-1-exact: as the file says\ncells [7]\n\
+        answer Ok([0, 0, 0, 0, 0, 0, 0, 1, 0, 7])\n";
+    assert_eq!(shown("start-write-1-by-1-exact"), right);
+}
+
+#[test]
 fn the_listing_program_takes_a_file_it_cannot_open_as_empty() {
     let directory = fresh("listing");
     let list = || {
@@ -230,4 +277,13 @@ fn the_listing_program_takes_a_file_it_cannot_open_as_empty() {
     assert_eq!(list(), (Some(0), "refused 4 0\n".into()));
     fs::write(directory.join("run.rec"), [0, 0]).expect("a file can be written");
     assert_eq!(list(), (Some(0), "order 0\n".into()));
+    let readings = [0, 0, 0, 0, 0, 0, 0, 1, 1, 2];
+    fs::write(directory.join("run.sta"), readings).expect("a file can be written");
+    assert_eq!(list(), (Some(0), "order 0\ncell 1 0 258\n".into()));
+    fs::write(directory.join("run.sta"), []).expect("a file can be written");
+    assert_eq!(list(), (Some(0), "order 0\n".into()));
+    fs::write(directory.join("run.sta"), [0; 9]).expect("a file can be written");
+    assert_eq!(list(), (Some(0), "refused 19 8\n".into()));
+    fs::remove_file(directory.join("run.rec")).expect("a file can be removed");
+    assert_eq!(list(), (Some(0), "refused 19 8\n".into()));
 }

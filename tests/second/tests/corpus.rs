@@ -1,9 +1,12 @@
 //! The corpus: whole, current, small, and read with clear faults.
 
+mod common;
+
+use common::{cases, compare_beside};
 use second::check::check_bytes;
 use second::corpus::{Case, Expected};
-use second::corpus_reader::{corpus_files, parse, read_file};
-use second::extras::{compare_extras, compare_slip_reader, Extras, Tally};
+use second::corpus_reader::{corpus_files, parse};
+use second::extras::{Extras, Tally};
 use second::families;
 use second::harness::{between_guards, compare_case};
 use second::limits::{number, Refusal};
@@ -19,27 +22,17 @@ fn directory() -> PathBuf {
     PathBuf::from(env!("CARGO_MANIFEST_DIR")).join("../vectors")
 }
 
-/// All cases of the corpus.
-fn cases() -> Vec<Case> {
-    let files = corpus_files(&directory()).expect("the corpus is there");
-    let read = |file: &PathBuf| read_file(file).unwrap_or_else(|fault| panic!("{fault}"));
-    files.iter().flat_map(read).collect()
-}
-
 #[test]
 fn the_second_program_agrees_with_every_case() {
     let (second, mut tally) = (Extras::second(), Tally::default());
     for case in cases() {
-        let compared = match &case {
-            Case::Check(case) => {
-                if let Err(disagreement) = compare_case(&between_guards(&check_bytes), case) {
-                    panic!("{}: {disagreement}", case.name);
-                }
-                compare_extras(&second, case, &mut tally)
+        if let Case::Check(case) = case {
+            if let Err(disagreement) = compare_case(&between_guards(&check_bytes), case) {
+                panic!("{}: {disagreement}", case.name);
             }
-            Case::Slip(case) => compare_slip_reader(&second, case, &mut tally),
-        };
-        compared.unwrap_or_else(|fault| panic!("{}: {fault}", case.name()));
+        }
+        compare_beside(&second, case, &mut tally)
+            .unwrap_or_else(|fault| panic!("{}: {fault}", case.name()));
     }
     println!("{tally}");
 }
@@ -57,21 +50,23 @@ fn the_made_files_are_current() {
 }
 
 #[test]
-fn the_longest_program_and_record_are_as_long_as_the_form_allows() {
+fn the_longest_program_start_and_record_are_as_long_as_the_form_allows() {
     let lengths = |name: &str| {
-        let named = cases().into_iter().find(|case| case.name() == name);
+        let named = cases().iter().find(|case| case.name() == name);
         match named {
-            Some(Case::Check(case)) => (case.program.len(), case.record.len()),
+            Some(Case::Check(case)) => [&case.program, &case.start, &case.record].map(Vec::len),
             other => panic!("{name}: {other:?}"),
         }
     };
     // A header of 8 bytes, and 400 transitions of 4 bytes and four expressions of 15 tokens, seven
     // of one byte and eight of three.
     let longest = 8 + 400 * (4 + 4 * (7 + 8 * 3));
-    assert_eq!(lengths("transitions-400-longest-program").0, longest);
+    assert_eq!(lengths("transitions-400-longest-program")[0], longest);
+    // For each of 16 ranks a map and 64 values.
+    assert_eq!(lengths("starts-longest")[1], 16 * (8 + 64 * 2));
     // The item count, and 1,024 items of map, kind, rank, transition, place, value and high byte.
     let longest = 2 + 1024 * (1 + 1 + 1 + 1 + 3 + 2 + 1);
-    assert_eq!(lengths("transitions-400-longest-record").1, longest);
+    assert_eq!(lengths("transitions-400-longest-record")[2], longest);
 }
 
 #[test]
@@ -81,7 +76,7 @@ fn the_corpus_is_small_and_its_names_differ() {
         .iter()
         .map(|file| fs::metadata(file).map_or(0, |data| data.len()))
         .sum();
-    assert!(size < 2_200_000, "{size} bytes");
+    assert!(size < 2_500_000, "{size} bytes");
     let cases = cases();
     let names: BTreeSet<&str> = cases.iter().map(Case::name).collect();
     assert_eq!(names.len(), cases.len());
@@ -92,16 +87,17 @@ fn the_corpus_is_small_and_its_names_differ() {
 fn the_corpus_has_every_number_and_both_verdicts() {
     let mut seen = BTreeSet::new();
     for case in cases() {
-        match case {
-            Case::Check(case) => match case.answer {
-                Expected::Order(_) => seen.insert(0),
-                Expected::Ring(_) => seen.insert(100),
-                Expected::Refused(refusal) => seen.insert(refusal.number),
+        let answer = match case {
+            Case::Check(case) => match &case.answer {
+                Expected::Order(_) => Ok(0),
+                Expected::Ring(_) => Ok(100),
+                Expected::Refused(refusal) => Err(refusal),
             },
-            Case::Slip(case) => case
-                .answer
-                .is_err_and(|refusal| seen.insert(refusal.number)),
+            Case::Slip(case) => case.answer.as_ref().map(|_| 0),
+            Case::StartWrite(case) => case.answer.as_ref().map(|_| 0),
+            Case::StartRead(case) => case.answer.as_ref().map(|_| 0),
         };
+        seen.insert(answer.unwrap_or_else(|refusal| refusal.number));
     }
     let all: BTreeSet<u8> = number::ALL.into_iter().chain([0, 100]).collect();
     assert_eq!(seen, all);
@@ -110,9 +106,9 @@ fn the_corpus_has_every_number_and_both_verdicts() {
 #[test]
 fn extremes_have_the_answers_known_beforehand() {
     let answer = |name: &str| {
-        let found = cases().into_iter().find(|case| case.name() == name);
+        let found = cases().iter().find(|case| case.name() == name);
         match found {
-            Some(Case::Check(case)) => case.answer,
+            Some(Case::Check(case)) => case.answer.clone(),
             other => panic!("{name}: {other:?}"),
         }
     };
@@ -146,7 +142,9 @@ fn malformed_corpus_texts_are_refused_at_their_line() {
         ("record 00", "recrod 00", "line 3"),
         ("order-entries 1", "order-entries -1", "line 4"),
         ("answer refused 1 0", "answer refused 17 0", "line 6"),
-        ("answer refused 1 0", "answer refused 19 0", "line 6"),
+        ("answer refused 1 0", "answer refused 20 0", "line 6"),
+        ("record 00", "start 0\nrecord 00", "line 3"),
+        ("record 00", "record 00\nstart 00", "line 4"),
         ("answer refused 1 0", "answer refused 1", "line 6"),
         ("answer refused 1 0", "answer maybe", "line 6"),
         ("answer refused 1 0", "answer order 1 70000", "line 6"),

@@ -6,8 +6,10 @@ use common::{fields, items_of, takes_high};
 use second::check::{check_bytes, Answer};
 use second::corpus::{CheckCase, SlipCase};
 use second::extras::{compare_all_ranks, compare_extras, compare_slip_reader, Extras, Tally};
+use second::generator::edition::Edition;
 use second::generator::rng::Rng;
 use second::generator::slips::slip_input;
+use second::generator::starts::{start_read_case, start_write_case};
 use second::generator::widen::{widened, Run};
 use second::generator::{input, middle_run, small_run, Input};
 use second::harness::{between_guards, compare, Histogram};
@@ -15,6 +17,8 @@ use second::limits::{number, Refusal};
 use second::program::Program;
 use second::record::record_bytes;
 use second::slip::read_slip;
+use second::start::start_bytes;
+use second::start_extras::{compare_start_reader, compare_start_writer};
 use std::collections::BTreeMap;
 
 #[test]
@@ -50,7 +54,7 @@ fn every_refusal_number_is_seen_at_many_places() {
         );
         assert!(places >= 5, "number {number} comes at {places} places only");
     }
-    assert!(histogram.orders >= 2_000 && histogram.rings >= 1_500);
+    assert!(histogram.orders >= 2_000 && histogram.rings >= 1_300);
 }
 
 #[test]
@@ -59,7 +63,13 @@ fn order_and_ring_counts_stay_within_the_list() {
         let input = input(6, index);
         let mut order = vec![0; input.order_bytes];
         let mut cells = vec![0; input.cell_bytes];
-        match check_bytes(&input.program, &input.record, &mut order, &mut cells) {
+        match check_bytes(
+            &input.program,
+            &input.start,
+            &input.record,
+            &mut order,
+            &mut cells,
+        ) {
             Answer::Order(count) | Answer::Ring(count) => assert!(count <= order.len() / 2),
             Answer::Refused(Refusal { number, .. }) => {
                 assert!(number != 16 && number::ALL.contains(&number));
@@ -69,25 +79,29 @@ fn order_and_ring_counts_stay_within_the_list() {
 }
 
 #[test]
-fn every_number_is_told_by_slip_writer_slip_reader_and_listing() {
+fn every_number_is_told_by_the_functions_beside_the_check() {
     let (second, mut tally) = (Extras::second(), Tally::default());
     for index in 0..2_000 {
-        let (input, slip) = (input(7, index), slip_input(7, index));
-        let case = CheckCase::answered(String::new(), input.program, input.record, 0, 0);
+        let slip = slip_input(7, index);
+        let case = CheckCase::of_input(input(7, index));
         let read = SlipCase::answered(String::new(), slip.ranks, slip.slip, slip.counts_entries);
         compare_extras(&second, &case, &mut tally)
             .and_then(|()| compare_slip_reader(&second, &read, &mut tally))
             .and_then(|()| compare_all_ranks(&second, &read.slip, &mut tally))
+            .and_then(|()| compare_start_writer(&second, &start_write_case(7, index), &mut tally))
+            .and_then(|()| compare_start_reader(&second, &start_read_case(7, index), &mut tally))
             .unwrap_or_else(|fault| panic!("seed 7, index {index}: {fault}"));
     }
     println!("{tally}");
     let numbers = |function| tally.told[function].keys().copied().collect::<Vec<u8>>();
     let refused = 1..=13;
-    let writer: Vec<u8> = [0].into_iter().chain(refused).chain([15, 18]).collect();
+    let writer: Vec<u8> = [0].into_iter().chain(refused).chain([15, 18, 19]).collect();
     let listing: Vec<u8> = writer.iter().copied().chain([255]).collect();
     assert_eq!(numbers("slip writer"), writer);
     assert_eq!(numbers("slip reader"), [0, 15, 16]);
     assert_eq!(numbers("listing"), listing);
+    assert_eq!(numbers("start writer"), [0, 1, 2, 15]);
+    assert_eq!(numbers("start reader"), [0, 1, 2, 3, 15, 19]);
     let often = |times: &usize| *times >= 30;
     assert!(tally
         .told
@@ -189,18 +203,18 @@ fn a_widened_run_has_the_same_answer() {
     for index in 0..1_000 {
         let rng = &mut Rng::new(11, index);
         let run = if index % 2 == 0 {
-            small_run(rng)
+            small_run(rng, Edition::Today)
         } else {
-            middle_run(rng)
+            middle_run(rng, Edition::Today)
         };
-        let case = |(program, items): &Run| {
+        let case = |(program, start, items): &Run| {
             let (program, record) = (program.to_bytes(), record_bytes(items));
-            CheckCase::answered(String::new(), program, record, 40, 40)
+            CheckCase::answered(String::new(), program, start_bytes(start), record, 40, 40)
         };
         let before = case(&run);
         let run = widened(rng, run);
         let after = case(&run);
-        wide += usize::from(takes_high(&run.1));
+        wide += usize::from(takes_high(&run.2));
         let (program, record) = (after.program.clone(), after.record.clone());
         let same = CheckCase {
             program,
@@ -263,7 +277,7 @@ fn every_rule_of_105_is_seen() {
     let rare: Vec<_> = times.iter().filter(|(_, &times)| times < 4).collect();
     assert!(rare.is_empty(), "rare {rare:?}");
     // an order and a ring of each N from 9 on, each number but 16, and the four above
-    assert_eq!(times.len(), 8 + 8 + 16 + 4);
+    assert_eq!(times.len(), 8 + 8 + 17 + 4);
     assert!(many >= 3_000 && accepted_rows >= 300);
 }
 

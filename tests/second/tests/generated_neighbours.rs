@@ -3,7 +3,7 @@
 
 mod common;
 
-use common::{accepted, assert_seen, count, fields, items_of, Times};
+use common::{accepted, assert_seen, count, fields, items_of, read_program_and_start, Times};
 use second::check::{accept, check_bytes, Accepted, Answer};
 use second::generator::neighbours::loosened_run;
 use second::generator::{input, names_remote, small_input, Input};
@@ -56,7 +56,7 @@ fn seen_of_run(accepted: &Accepted) -> BTreeSet<String> {
         Verdict::Ring(_) => "ring",
     };
     let mut seen = BTreeSet::new();
-    let mut machine = Machine::new(&accepted.program, &Start::zero(&accepted.program));
+    let mut machine = Machine::new(&accepted.program, &accepted.start);
     for (number, item) in accepted.items.iter().enumerate() {
         let group = accepted.grouping.group_of[number];
         let read = accepted.grouping.groups[group].kind == Kind::Read;
@@ -98,14 +98,19 @@ fn seen_of_bytes(program: &Program, record: &[u8], refusal: Refusal) -> Option<S
 }
 
 /// What a record that the replay refuses at a pop with a name shows.
-fn seen_of_replay(program: &Program, items: &[Item], refusal: Refusal) -> Option<String> {
+fn seen_of_replay(
+    program: &Program,
+    start: &Start,
+    items: &[Item],
+    refusal: Refusal,
+) -> Option<String> {
     let Refusal { number, place } = refusal;
     let Some(item) = items.get(place) else {
         let named = items.iter().any(names_remote);
         return (named && number == 13).then(|| "left behind".into());
     };
     let remote = item.act.pop()?.remote?;
-    let mut machine = Machine::new(program, &Start::zero(program));
+    let mut machine = Machine::new(program, start);
     for item in &items[..place] {
         machine.step(program, item).expect("the items before it");
     }
@@ -131,15 +136,16 @@ fn seen_of_replay(program: &Program, items: &[Item], refusal: Refusal) -> Option
 /// What an input and its answer show.
 fn seen(input: &Input, answer: Answer) -> BTreeSet<String> {
     let Answer::Refused(refusal) = answer else {
-        let accepted = accept(&input.program, &input.record).expect("an order or a ring");
+        let accepted =
+            accept(&input.program, &input.start, &input.record).expect("an order or a ring");
         return seen_of_run(&accepted);
     };
-    let Ok(program) = Program::read(&input.program) else {
+    let Some((program, start)) = read_program_and_start(input) else {
         return BTreeSet::new();
     };
     let seen = match read_record(&input.record, &program) {
         Err(refusal) => seen_of_bytes(&program, &input.record, refusal),
-        Ok(items) if refusal.number <= 13 => seen_of_replay(&program, &items, refusal),
+        Ok(items) if refusal.number <= 13 => seen_of_replay(&program, &start, &items, refusal),
         Ok(_) => None,
     };
     seen.into_iter().collect()
@@ -170,7 +176,8 @@ fn small_records_overtake_in_every_way() {
     let mut times = Times::new();
     for index in 0..20_000 {
         let input = small_input(16, index);
-        let accepted = accept(&input.program, &input.record).expect("an execution is accepted");
+        let accepted =
+            accept(&input.program, &input.start, &input.record).expect("an execution is accepted");
         count(&mut times, seen_of_run(&accepted));
     }
     assert_seen(&times, 2 * OF_RUNS, 50);
@@ -184,7 +191,7 @@ fn loosened_plain_runs_with_names_have_an_order() {
         let Verdict::Order(order) = &accepted.verdict else {
             panic!("seed 17, index {index}: a ring for the trace of a plain run");
         };
-        judge_order(&accepted, &Start::zero(&accepted.program), order)
+        judge_order(&accepted, order)
             .unwrap_or_else(|fault| panic!("seed 17, index {index}: {fault}"));
         longest = longest.max(accepted.items.len());
         count(&mut times, seen_of_run(&accepted));

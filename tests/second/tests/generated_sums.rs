@@ -3,7 +3,7 @@
 
 mod common;
 
-use common::{assert_seen, count, Times};
+use common::{assert_seen, count, read_program_and_start, Times};
 use second::check::{accept, check_bytes, Answer};
 use second::expression::{Environment, Expression, Operator};
 use second::generator::{input, small_input, Input};
@@ -176,8 +176,8 @@ impl<'a> Taken<'a> {
 }
 
 /// The machine after the items before this place.
-fn machine_before(program: &Program, items: &[Item]) -> Machine {
-    let mut machine = Machine::new(program, &Start::zero(program));
+fn machine_before(program: &Program, start: &Start, items: &[Item]) -> Machine {
+    let mut machine = Machine::new(program, start);
     for item in items {
         machine.step(program, item).expect("the items before it");
     }
@@ -185,12 +185,17 @@ fn machine_before(program: &Program, items: &[Item]) -> Machine {
 }
 
 /// What a refusal by the replay shows.
-fn seen_of_refusal(program: &Program, items: &[Item], refusal: Refusal) -> BTreeSet<String> {
+fn seen_of_refusal(
+    program: &Program,
+    start: &Start,
+    items: &[Item],
+    refusal: Refusal,
+) -> BTreeSet<String> {
     let Refusal { number, place } = refusal;
     let Some(item) = items.get(place) else {
         return BTreeSet::new();
     };
-    let machine = machine_before(program, &items[..place]);
+    let machine = machine_before(program, start, &items[..place]);
     let Some(taken) = Taken::of(program, &machine, item) else {
         return BTreeSet::new();
     };
@@ -203,13 +208,13 @@ fn seen_of_refusal(program: &Program, items: &[Item], refusal: Refusal) -> BTree
 
 /// What an accepted run shows.
 fn seen_of_run(input: &Input) -> BTreeSet<String> {
-    let accepted = accept(&input.program, &input.record).expect("an order or a ring");
+    let accepted = accept(&input.program, &input.start, &input.record).expect("an order or a ring");
     let verdict = match accepted.verdict {
         Verdict::Order(_) => "order",
         Verdict::Ring(_) => "ring",
     };
     let program = &accepted.program;
-    let mut machine = Machine::new(program, &Start::zero(program));
+    let mut machine = Machine::new(program, &accepted.start);
     let mut seen = BTreeSet::new();
     for item in &accepted.items {
         if let Some(taken) = Taken::of(program, &machine, item) {
@@ -237,11 +242,11 @@ fn seen(input: &Input, answer: Answer) -> BTreeSet<String> {
     let Answer::Refused(refusal) = answer else {
         return seen_of_run(input);
     };
-    let Ok(program) = Program::read(&input.program) else {
+    let Some((program, start)) = read_program_and_start(input) else {
         return BTreeSet::new();
     };
     match read_record(&input.record, &program) {
-        Ok(items) => seen_of_refusal(&program, &items, refusal),
+        Ok(items) => seen_of_refusal(&program, &start, &items, refusal),
         Err(_) => BTreeSet::new(),
     }
 }

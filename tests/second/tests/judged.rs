@@ -2,8 +2,9 @@
 
 mod common;
 
-use common::takes_high;
-use second::check::{accept, accept_items, Accepted};
+use common::{accept_run, takes_high};
+use second::check::{accept_items, Accepted};
+use second::generator::edition::Edition;
 use second::generator::executions::{execution, pace};
 use second::generator::programs::{every_rank, program_of, SMALL};
 use second::generator::rng::Rng;
@@ -12,7 +13,6 @@ use second::generator::{later_run, SMALL_RUNS};
 use second::judge::judge;
 use second::judged::Verdicts;
 use second::machine::Start;
-use second::record::record_bytes;
 
 /// How many small accepted records are judged from document 01's start.
 const RECORDS: u64 = 36_000;
@@ -20,8 +20,8 @@ const RECORDS: u64 = 36_000;
 const OTHER_STARTS: u64 = 4_000;
 
 /// Judges an accepted run and counts its verdict.
-fn judge_and_count(verdicts: &mut Verdicts, accepted: &Accepted, start: &Start, index: u64) {
-    judge(accepted, start).unwrap_or_else(|fault| panic!("index {index}: {fault}"));
+fn judge_and_count(verdicts: &mut Verdicts, accepted: &Accepted, index: u64) {
+    judge(accepted).unwrap_or_else(|fault| panic!("index {index}: {fault}"));
     verdicts.count(&accepted.verdict);
 }
 
@@ -30,12 +30,14 @@ fn arrows_and_the_exhaustive_judge_agree() {
     let (mut counts, mut many, mut high) = (Verdicts::default(), Verdicts::default(), 0);
     for index in 0..RECORDS {
         let rng = &mut Rng::new(1, index);
-        let (program, items) = later_run(rng, SMALL_RUNS);
-        let accepted = accept(&program.to_bytes(), &record_bytes(&items))
-            .unwrap_or_else(|refusal| panic!("index {index}: {refusal:?}"));
-        assert_eq!((&accepted.program, &accepted.items), (&program, &items));
-        judge_and_count(&mut counts, &accepted, &Start::zero(&program), index);
-        high += usize::from(takes_high(&items));
+        let run = later_run(rng, SMALL_RUNS, Edition::Today);
+        let accepted =
+            accept_run(&run).unwrap_or_else(|refusal| panic!("index {index}: {refusal:?}"));
+        let (program, start, items) = &run;
+        assert_eq!((&accepted.program, &accepted.items), (program, items));
+        assert_eq!(accepted.start, *start);
+        judge_and_count(&mut counts, &accepted, index);
+        high += usize::from(takes_high(items));
         if program.ranks > 8 {
             many.count(&accepted.verdict);
         }
@@ -73,15 +75,15 @@ fn they_agree_from_other_starts_too() {
         let rng = &mut Rng::new(2, index);
         let ranks = *rng.pick(&[1, 2, 3, 3, 9, 15, 16]);
         let busy = &every_rank(ranks)[ranks.saturating_sub(3)..];
-        let program = program_of(rng, SMALL, ranks, busy);
+        let program = program_of(rng, SMALL, ranks, busy, Edition::Today);
         let start = random_start(rng, &program);
         let mut pace = pace(rng, 16 + ranks, 7);
         pace.naming = rng.below(5);
         let items = execution(rng, &program, busy, &start, pace);
-        let (program, items) = now_and_then(rng, (program, items));
-        let accepted = accept_items(program, items, &start)
+        let (program, start, items) = now_and_then(rng, (program, start, items));
+        let accepted = accept_items(program, start, items)
             .unwrap_or_else(|refusal| panic!("index {index}: {refusal:?}"));
-        judge_and_count(&mut counts, &accepted, &start, index);
+        judge_and_count(&mut counts, &accepted, index);
     }
     println!("judged from other starts: {counts:?}");
     assert!(counts.own_orders + counts.other_orders >= 1_000 && counts.rings >= 1_000);

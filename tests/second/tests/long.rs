@@ -4,11 +4,8 @@ mod common;
 
 use common::{accepted, takes_high};
 use second::bounded::{find_bounded, judge_bounded, Found};
-use second::generator::rng::Rng;
-use second::generator::widen::Run;
-use second::generator::{long_loosened_run, many_ranks, middle_run, neighbours, small_run};
+use second::generator::{long_loosened_run, many_ranks, middle_run, neighbours, small_run, Maker};
 use second::judge::{find_plain_run, judge_order};
-use second::machine::Start;
 use second::order::Verdict;
 
 /// Places a bounded search may visit.
@@ -22,7 +19,7 @@ fn loosened_plain_runs_have_an_order() {
         let Verdict::Order(order) = &accepted.verdict else {
             panic!("seed 21, index {index}: a ring for the trace of a plain run");
         };
-        judge_order(&accepted, &Start::zero(&accepted.program), order)
+        judge_order(&accepted, order)
             .unwrap_or_else(|fault| panic!("seed 21, index {index}: {fault}"));
         longest = longest.max(accepted.items.len());
         high += usize::from(takes_high(&accepted.items));
@@ -34,11 +31,11 @@ fn loosened_plain_runs_have_an_order() {
 #[test]
 fn the_two_searches_agree_on_small_runs() {
     for index in 0..8_000 {
-        let made = [small_run, neighbours::small_run][index as usize % 2];
+        let made: Maker = [small_run, neighbours::small_run][index as usize % 2];
         let accepted = accepted(made, 22, index);
-        let start = Start::zero(&accepted.program);
-        let exhaustive = find_plain_run(&accepted.program, &start, &accepted.run);
-        let bounded = find_bounded(&accepted.program, &start, &accepted.run, LIMIT);
+        let (program, start) = (&accepted.program, &accepted.start);
+        let exhaustive = find_plain_run(program, start, &accepted.run);
+        let bounded = find_bounded(program, start, &accepted.run, LIMIT);
         match (exhaustive, bounded) {
             (Some(one), Found::Run(other)) => assert_eq!(one, other, "seed 22, index {index}"),
             (None, Found::Nothing) => {}
@@ -52,7 +49,7 @@ fn arrows_and_the_bounded_search_agree_on_middle_runs() {
     let (mut orders, mut rings, mut unknown, mut high) = (0, 0, 0, 0);
     for index in 0..5_000 {
         let accepted = accepted(middle_run, 23, index);
-        let ended = judge_bounded(&accepted, &Start::zero(&accepted.program), LIMIT)
+        let ended = judge_bounded(&accepted, LIMIT)
             .unwrap_or_else(|fault| panic!("seed 23, index {index}: {fault}"));
         high += usize::from(takes_high(&accepted.items));
         match &accepted.verdict {
@@ -66,16 +63,15 @@ fn arrows_and_the_bounded_search_agree_on_middle_runs() {
 }
 
 /// Judges runs of any length, as far as the bounded search comes to an end.
-fn judge_runs(made: fn(&mut Rng) -> Run, seed: u64) {
+fn judge_runs(made: Maker, seed: u64) {
     let (mut orders, mut rings, mut unknown) = (0, 0, 0);
     for index in 0..1_500 {
         let accepted = accepted(made, seed, index);
-        let start = Start::zero(&accepted.program);
         if let Verdict::Order(order) = &accepted.verdict {
-            judge_order(&accepted, &start, order)
+            judge_order(&accepted, order)
                 .unwrap_or_else(|fault| panic!("seed {seed}, index {index}: {fault}"));
         }
-        let ended = judge_bounded(&accepted, &start, 500)
+        let ended = judge_bounded(&accepted, 500)
             .unwrap_or_else(|fault| panic!("seed {seed}, index {index}: {fault}"));
         match &accepted.verdict {
             _ if !ended => unknown += 1,

@@ -44,7 +44,7 @@ fn refusal(changes: &[(usize, u8)]) -> Option<(u8, usize)> {
 
 /// The refusal of a record.
 fn refusal_of(record: &[u8]) -> Option<(u8, usize)> {
-    match answer(&PROGRAM, record, 8, 8).answer {
+    match answer(&PROGRAM, &[], record, 8, 8).answer {
         Answer::Refused(Refusal { number, place }) => Some((number, place)),
         _ => None,
     }
@@ -52,16 +52,16 @@ fn refusal_of(record: &[u8]) -> Option<(u8, usize)> {
 
 #[test]
 fn a_read_overtakes_a_write() {
-    let filled = answer(&PROGRAM, &RECORD, 3, 6);
+    let filled = answer(&PROGRAM, &[], &RECORD, 3, 6);
     assert_eq!(filled.answer, Answer::Ring(2));
     assert_eq!(filled.groups, [1, 2]);
     assert_eq!(filled.cells, [7, 0, 0, 7, 7, 0]);
     let mut slip = [0; 5];
-    assert_eq!(write_slip(&PROGRAM, &RECORD, &mut slip), Ok(5));
+    assert_eq!(write_slip(&PROGRAM, &[], &RECORD, &mut slip), Ok(5));
     assert_eq!(slip, [5, 0, 2, 0, 1]);
     let lines = "ring 2\ngroup 1 write 1 1\ngroup 2 read 1 2\n\
         cell 1 0 7\ncell 2 1 7\ncell 3 0 7\n";
-    assert_eq!(listing_text(&PROGRAM, &RECORD).0, lines);
+    assert_eq!(listing_text(&PROGRAM, &[], &RECORD).0, lines);
 }
 
 #[test]

@@ -37,13 +37,13 @@ const THREE_STORES: [u8; 27] = [
 /// The slip of an accepted run.
 fn slip(program: &[u8], record: &[u8]) -> Vec<u8> {
     let mut memory = [0; 40];
-    let length = write_slip(program, record, &mut memory).expect("the run is accepted");
+    let length = write_slip(program, &[], record, &mut memory).expect("the run is accepted");
     memory[..length].to_vec()
 }
 
 /// The refusal of a program and a record, with long enough lists.
 fn refusal(program: &[u8], record: &[u8]) -> Option<(u8, usize)> {
-    match answer(program, record, 1024, 1024).answer {
+    match answer(program, &[], record, 1024, 1024).answer {
         Answer::Refused(Refusal { number, place }) => Some((number, place)),
         _ => None,
     }
@@ -60,12 +60,12 @@ fn read(ranks: usize, slip: &[u8]) -> Result<Vec<u16>, (u8, usize)> {
 
 #[test]
 fn nine_bars_are_a_row_of_nine_ranks_only() {
-    let filled = answer(&program(9), &NINE_BARS, 1, 9);
+    let filled = answer(&program(9), &[], &NINE_BARS, 1, 9);
     assert_eq!(filled.answer, Answer::Order(1));
     assert_eq!((filled.groups, filled.cells), (vec![0], vec![0; 9]));
     let row = [1, 255, 0, 1, 0, 1, 0, 1, 0, 1, 0, 1, 0, 1, 0, 1, 0, 1, 0, 1];
     assert_eq!(slip(&program(9), &NINE_BARS), row);
-    let text = listing_text(&program(9), &NINE_BARS).0;
+    let text = listing_text(&program(9), &[], &NINE_BARS).0;
     assert_eq!(text, "order 1\ngroup 0 bar 0 0\n");
     // of sixteen ranks the row stays open, and with eight there is no rank 9
     assert_eq!(refusal(&program(16), &NINE_BARS), Some((12, 9)));
@@ -74,7 +74,7 @@ fn nine_bars_are_a_row_of_nine_ranks_only() {
 
 #[test]
 fn ranks_up_to_sixteen_store() {
-    let filled = answer(&program(16), &THREE_STORES, 3, 16);
+    let filled = answer(&program(16), &[], &THREE_STORES, 3, 16);
     assert_eq!(filled.answer, Answer::Order(3));
     assert_eq!(filled.groups, [0, 1, 2]);
     let cells = [0, 0, 0, 0, 0, 0, 0, 8, 9, 0, 0, 0, 0, 0, 0, 16];
@@ -83,13 +83,13 @@ fn ranks_up_to_sixteen_store() {
         slip(&program(16), &THREE_STORES),
         [129, 128, 0, 1, 0, 1, 0, 1]
     );
-    let text = listing_text(&program(16), &THREE_STORES).0;
+    let text = listing_text(&program(16), &[], &THREE_STORES).0;
     let lines = "order 3\ngroup 0 store 16 0\ngroup 1 store 9 1\ngroup 2 store 8 2\n\
         cell 8 0 8\ncell 9 0 9\ncell 16 0 16\n";
     assert_eq!(text, lines);
     // rank 16 stands at byte 4, and is above an N of 15
     assert_eq!(refusal(&program(15), &THREE_STORES), Some((5, 4)));
-    let short = answer(&program(16), &THREE_STORES, 3, 15);
+    let short = answer(&program(16), &[], &THREE_STORES, 3, 15);
     let entries = Refusal {
         number: 15,
         place: 16,

@@ -42,7 +42,7 @@ const RUN_B: &str = "ring 3\n\
 fn runs() -> Vec<CheckCase> {
     let check = |case| match case {
         Case::Check(case) => case,
-        Case::Slip(case) => panic!("{} is a slip case", case.name),
+        other => panic!("{} is no case of the check", other.name()),
     };
     parse(RUNS)
         .expect("runs.txt is well formed")
@@ -87,7 +87,7 @@ fn runs_a_to_l_have_their_whole_answers() {
 fn run_b_prints_its_lines() {
     let case = &runs()[1];
     let mut memory = [0; 200];
-    let listed = write_listing(&case.program, &case.record, &mut memory);
+    let listed = write_listing(&case.program, &case.start, &case.record, &mut memory);
     assert_eq!(&memory[..listed.written], RUN_B.as_bytes());
 }
 
@@ -103,7 +103,7 @@ fn assigns(count: [u8; 2], items: usize) -> Vec<u8> {
 
 #[test]
 fn run_m_1024_items_pass_the_count() {
-    let filled = answer(&ASSIGN, &assigns([4, 0], 1024), 1024, 1);
+    let filled = answer(&ASSIGN, &[], &assigns([4, 0], 1024), 1024, 1);
     assert_eq!(filled.answer, Answer::Order(1024));
     assert_eq!(filled.groups, (0..1024).collect::<Vec<u16>>());
     assert_eq!(filled.cells, [0]);
@@ -112,7 +112,7 @@ fn run_m_1024_items_pass_the_count() {
 #[test]
 fn run_m_1025_items_are_5_at_byte_0() {
     let (mut order, mut cells) = ([7; 1025], [8; 3]);
-    let answer = check(&ASSIGN, &assigns([4, 1], 1025), &mut order, &mut cells);
+    let answer = check(&ASSIGN, &[], &assigns([4, 1], 1025), &mut order, &mut cells);
     assert_eq!(
         answer,
         Answer::Refused(Refusal {

@@ -9,10 +9,11 @@ use second::corpus::{Case, CheckCase, Expected};
 use second::expression::{Environment, Expression, Operator};
 use second::limits::Refusal;
 use second::listing::listing_text;
-use second::machine::{Machine, Start};
+use second::machine::Machine;
 use second::program::Program;
 use second::record::read_record;
 use second::slip::write_slip;
+use second::start::start_of;
 
 /// N 2, A 2, R 1, Q 1, S 1, T 4; the numbers are the places of the bytes.
 #[rustfmt::skip]
@@ -49,7 +50,7 @@ fn with(bytes: &[u8], changes: &[(usize, u8)]) -> Vec<u8> {
 /// The refusal of the program and the record with some bytes replaced.
 fn refusal(program: &[(usize, u8)], record: &[(usize, u8)]) -> Option<(u8, usize)> {
     let (program, record) = (with(&PROGRAM, program), with(&RECORD, record));
-    match answer(&program, &record, 3, 4).answer {
+    match answer(&program, &[], &record, 3, 4).answer {
         Answer::Refused(Refusal { number, place }) => Some((number, place)),
         _ => None,
     }
@@ -57,16 +58,16 @@ fn refusal(program: &[(usize, u8)], record: &[(usize, u8)]) -> Option<(u8, usize
 
 #[test]
 fn values_at_the_edge_are_values() {
-    let filled = answer(&PROGRAM, &RECORD, 3, 4);
+    let filled = answer(&PROGRAM, &[], &RECORD, 3, 4);
     assert_eq!(filled.answer, Answer::Order(3));
     assert_eq!(filled.groups, [0, 1, 2]);
     assert_eq!(filled.cells, [65_535, 0, 0, 65_535]);
     let mut slip = [0; 5];
-    assert_eq!(write_slip(&PROGRAM, &RECORD, &mut slip), Ok(5));
+    assert_eq!(write_slip(&PROGRAM, &[], &RECORD, &mut slip), Ok(5));
     assert_eq!(slip, [3, 0, 2, 0, 1]);
     let lines = "order 3\ngroup 0 store 1 0\ngroup 1 assume 2 1\ngroup 2 write 1 2\n\
         cell 1 0 65535\ncell 2 1 65535\n";
-    assert_eq!(listing_text(&PROGRAM, &RECORD).0, lines);
+    assert_eq!(listing_text(&PROGRAM, &[], &RECORD).0, lines);
 }
 
 #[test]
@@ -88,9 +89,9 @@ fn slip_writer_and_listing_pass_18_on() {
         number: 18,
         place: 2,
     };
-    assert_eq!(write_slip(&program, &RECORD, &mut slip), Err(no_value));
+    assert_eq!(write_slip(&program, &[], &RECORD, &mut slip), Err(no_value));
     assert_eq!(slip, [7; 5]);
-    assert_eq!(listing_text(&program, &RECORD).0, "refused 18 2\n");
+    assert_eq!(listing_text(&program, &[], &RECORD).0, "refused 18 2\n");
 }
 
 #[test]
@@ -129,7 +130,7 @@ fn an_assume_has_18_before_9() {
 /// What a program of one rank stores in its only cell: the value, or number and place.
 fn stored(tokens: &[u8]) -> Result<u16, (u8, usize)> {
     let program = [&[1, 1, 1, 1, 1, 1, 6, 2, 0, 0, 0, 0, 0], tokens].concat();
-    let filled = answer(&program, &[0, 1, 27, 2, 1, 0, 1, 0, 0], 1, 1);
+    let filled = answer(&program, &[], &[0, 1, 27, 2, 1, 0, 1, 0, 0], 1, 1);
     match filled.answer {
         Answer::Refused(Refusal { number, place }) => Err((number, place)),
         _ => Ok(filled.cells[0]),
@@ -216,10 +217,11 @@ fn parts(expression: &Expression, environment: &Environment) -> Vec<i128> {
 
 /// The first item, from the start on, that comes to its expressions by document 01 alone and has
 /// one with a part outside the range; none if another is refused before.
-fn first_passing(program: &Program, record: &[u8]) -> Option<usize> {
+fn first_passing(program: &Program, start: &[u8], record: &[u8]) -> Option<usize> {
+    let start = start_of(program, start).ok()?;
     let items = read_record(record, program).ok()?;
     let dated = program.clone().dated();
-    let mut machine = Machine::new(&dated, &Start::zero(&dated));
+    let mut machine = Machine::new(&dated, &start);
     for (place, item) in items.iter().enumerate() {
         let before = machine.clone();
         let done = machine.step(&dated, item);
@@ -251,8 +253,9 @@ fn assert_found(case: &CheckCase) -> bool {
     let read = Program::read(&case.program);
     let place = read
         .ok()
-        .and_then(|read| first_passing(&read, &case.record));
-    let found = match (&case.answer, accept_dated(&case.program, &case.record)) {
+        .and_then(|read| first_passing(&read, &case.start, &case.record));
+    let dated = accept_dated(&case.program, &case.start, &case.record);
+    let found = match (&case.answer, dated) {
         (Expected::Refused(Refusal { number: 18, place }), _) => Some(*place),
         (Expected::Refused(refusal), Err(dated)) => {
             assert_eq!(*refusal, dated, "{}", case.name);
@@ -272,7 +275,7 @@ fn every_18_of_the_corpus_is_where_an_expression_first_passes_the_range() {
     let (mut without, mut others) = (0, 0);
     for case in cases() {
         if let Case::Check(case) = case {
-            match assert_found(&case) {
+            match assert_found(case) {
                 true => without += 1,
                 false => others += 1,
             }

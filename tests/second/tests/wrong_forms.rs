@@ -4,7 +4,7 @@ mod common;
 
 use common::{fields, is_cut, items_of, refused, told};
 use second::check::{check_bytes, Answer};
-use second::extras::{listed, slip_read, slip_written, Extras, Told, Writer};
+use second::extras::{listed, slip_written, Extras, Functions, Told, Writer, SECOND};
 use second::forms::hold::{hold, Readers, Shown};
 use second::forms::table::Table;
 use second::forms::{Form, Pair};
@@ -41,7 +41,11 @@ fn mistaken(mistake: Mistake, record: &[u8]) -> Vec<u8> {
 fn held(check: Subject, write_slip: Writer, list: Writer) -> Result<Shown, String> {
     let readers = Readers {
         check: &between_guards(check),
-        extras: &Extras::between_guards(write_slip, &slip_read, list),
+        extras: &Extras::between_guards(Functions {
+            write_slip,
+            list,
+            ..SECOND
+        }),
     };
     hold(&Table::of_the_papers(), &readers)
 }
@@ -50,20 +54,26 @@ fn held(check: Subject, write_slip: Writer, list: Writer) -> Result<Shown, Strin
 fn held_with(function: &str, mistake: Mistake) -> Result<Shown, String> {
     match function {
         "check" => held(
-            &|program, record, order, cells| {
-                check_bytes(program, &mistaken(mistake, record), order, cells)
+            &|program, start, record, order, cells| {
+                check_bytes(program, start, &mistaken(mistake, record), order, cells)
             },
             &slip_written,
             &listed,
         ),
         "slip writer" => held(
             &check_bytes,
-            &|program, record, slip| slip_written(program, &mistaken(mistake, record), slip),
+            &|program, start, record, slip| {
+                slip_written(program, start, &mistaken(mistake, record), slip)
+            },
             &listed,
         ),
-        "listing" => held(&check_bytes, &slip_written, &|program, record, text| {
-            listed(program, &mistaken(mistake, record), text)
-        }),
+        "listing" => held(
+            &check_bytes,
+            &slip_written,
+            &|program, start, record, text| {
+                listed(program, start, &mistaken(mistake, record), text)
+            },
+        ),
         _ => panic!("there is no {function}"),
     }
 }
@@ -262,10 +272,13 @@ fn bit_7_taken_with_a_bit_that_is_not_the_kinds() {
 /// Fails unless a subject that reads all items in another way is caught in each function at this
 /// pair, although its verdicts on the pairs alone are right.
 fn assert_reading_caught(reading: fn(&[u8]) -> Vec<u8>, at: Pair) {
-    let check: Subject =
-        &|program, record, order, cells| check_bytes(program, &reading(record), order, cells);
-    let write_slip: Writer = &|program, record, slip| slip_written(program, &reading(record), slip);
-    let list: Writer = &|program, record, text| listed(program, &reading(record), text);
+    let check: Subject = &|program, start, record, order, cells| {
+        check_bytes(program, start, &reading(record), order, cells)
+    };
+    let write_slip: Writer =
+        &|program, start, record, slip| slip_written(program, start, &reading(record), slip);
+    let list: Writer =
+        &|program, start, record, text| listed(program, start, &reading(record), text);
     let begin = format!("{at}: good in the table, no verdict by the ");
     assert_fault(held(check, &slip_written, &listed), &begin);
     assert_fault(held(&check_bytes, write_slip, &listed), &begin);
@@ -318,11 +331,11 @@ fn the_high_byte_read_right_after_the_low_one() {
 
 #[test]
 fn bit_7_refused_beside_a_program_without_such_transitions() {
-    let check: Subject = &|program, record, order, cells| {
+    let check: Subject = &|program, start, record, order, cells| {
         let is_high = |&at: &usize| HIGH.contains(&pair(record[at], record[at + 1]));
         match items_of(record).into_iter().find(is_high) {
             Some(at) if program[5] != 255 => refused(6, at),
-            _ => check_bytes(program, record, order, cells),
+            _ => check_bytes(program, start, record, order, cells),
         }
     };
     let begin = "kind 1 map 155: good in the table, wrong-map by the check\n";
@@ -400,15 +413,17 @@ fn as_if_first(record: &[u8], place: usize) -> usize {
 
 #[test]
 fn a_place_that_is_right_for_the_first_item_only() {
-    let check: Subject =
-        &|program, record, order, cells| match check_bytes(program, record, order, cells) {
-            Answer::Refused(Refusal { number: 6, place }) => refused(6, as_if_first(record, place)),
-            other => other,
-        };
-    let write_slip: Writer = &|program, record, slip| match slip_written(program, record, slip) {
-        Told { number: 6, value } => told(6, as_if_first(record, value)),
+    let check: Subject = &|program, start, record, order, cells| match check_bytes(
+        program, start, record, order, cells,
+    ) {
+        Answer::Refused(Refusal { number: 6, place }) => refused(6, as_if_first(record, place)),
         other => other,
     };
+    let write_slip: Writer =
+        &|program, start, record, slip| match slip_written(program, start, record, slip) {
+            Told { number: 6, value } => told(6, as_if_first(record, value)),
+            other => other,
+        };
     let begin = "kind 0 map 0: unknown-kind in the table, no verdict by the ";
     assert_fault(held(check, &slip_written, &listed), begin);
     assert_fault(held(&check_bytes, write_slip, &listed), begin);
@@ -416,11 +431,11 @@ fn a_place_that_is_right_for_the_first_item_only() {
 
 #[test]
 fn a_map_refused_only_where_all_its_fields_follow() {
-    let check: Subject = &|program, record, order, cells| {
+    let check: Subject = &|program, start, record, order, cells| {
         let whole = |&at: &usize| record[at..].starts_with(&[59, 1]) && !is_cut(record, at);
         match items_of(record).into_iter().find(whole) {
             Some(at) => refused(6, at),
-            None => check_bytes(program, record, order, cells),
+            None => check_bytes(program, start, record, order, cells),
         }
     };
     let begin = "kind 1 map 59: good in the table, wrong-map by the check\n";
@@ -429,14 +444,14 @@ fn a_map_refused_only_where_all_its_fields_follow() {
 
 #[test]
 fn a_missing_field_told_before_the_map_is_judged() {
-    let check: Subject = &|program, record, order, cells| {
+    let check: Subject = &|program, start, record, order, cells| {
         if items_of(record)
             .last()
             .is_some_and(|&at| is_cut(record, at))
         {
             return refused(4, record.len());
         }
-        check_bytes(program, record, order, cells)
+        check_bytes(program, start, record, order, cells)
     };
     let begin = "kind 0 map 1: unknown-kind in the table, good by the check\n";
     assert_fault(held(check, &slip_written, &listed), begin);
@@ -444,22 +459,22 @@ fn a_missing_field_told_before_the_map_is_judged() {
 
 #[test]
 fn lent_memory_changed_with_a_refusal() {
-    let check: Subject = &|program, record, order, cells| {
-        let answer = check_bytes(program, record, order, cells);
+    let check: Subject = &|program, start, record, order, cells| {
+        let answer = check_bytes(program, start, record, order, cells);
         if matches!(answer, Answer::Refused(Refusal { number: 6, .. })) {
             order[0] = 0;
         }
         answer
     };
-    let write_slip: Writer = &|program, record, slip| {
-        let told = slip_written(program, record, slip);
+    let write_slip: Writer = &|program, start, record, slip| {
+        let told = slip_written(program, start, record, slip);
         if told.number == 6 {
             slip[0] = 0;
         }
         told
     };
-    let list: Writer = &|program, record, text| {
-        let told = listed(program, record, text);
+    let list: Writer = &|program, start, record, text| {
+        let told = listed(program, start, record, text);
         if told.number == 6 {
             text[told.value] = 0;
         }

@@ -4,7 +4,7 @@ mod common;
 
 use common::{accept_dated, assert_extras_caught, assert_extras_right, told};
 use second::check::{accept, Accepted};
-use second::extras::{listed, slip_read, slip_written, Extras, Told, Writer, DONE, RING};
+use second::extras::{listed, Extras, Functions, Told, Writer, DONE, RING, SECOND};
 use second::groups::Group;
 use second::limits::{Outcome, Refusal};
 use second::listing::lines_of;
@@ -13,7 +13,10 @@ use second::program::Kind;
 
 /// Fails unless this listing is caught.
 fn assert_listing_caught(subject: Writer) {
-    let subject = Extras::between_guards(&slip_written, &slip_read, subject);
+    let subject = Extras::between_guards(Functions {
+        list: subject,
+        ..SECOND
+    });
     assert_extras_caught("listing", &subject);
 }
 
@@ -21,10 +24,11 @@ fn assert_listing_caught(subject: Writer) {
 fn list(
     lines_of: &dyn Fn(&Accepted) -> String,
     program: &[u8],
+    start: &[u8],
     record: &[u8],
     memory: &mut [u8],
 ) -> Told {
-    list_accepted(lines_of, accept(program, record), memory)
+    list_accepted(lines_of, accept(program, start, record), memory)
 }
 
 /// The same for what was accepted or refused.
@@ -49,7 +53,9 @@ fn list_accepted(
 
 /// Fails unless a listing with this way to make lines is caught.
 fn assert_lines_caught(lines_of: &dyn Fn(&Accepted) -> String) {
-    assert_listing_caught(&|program, record, text| list(lines_of, program, record, text));
+    assert_listing_caught(&|program, start, record, text| {
+        list(lines_of, program, start, record, text)
+    });
 }
 
 /// The lines of a run whose groups have been changed.
@@ -68,8 +74,12 @@ fn filtered(accepted: &Accepted, passes: impl Fn(&str) -> bool) -> String {
 
 #[test]
 fn the_right_lines_are_not_caught() {
-    let writer: Writer = &|program, record, text| list(&lines_of, program, record, text);
-    assert_extras_right(&Extras::between_guards(&slip_written, &slip_read, writer));
+    let writer: Writer =
+        &|program, start, record, text| list(&lines_of, program, start, record, text);
+    assert_extras_right(&Extras::between_guards(Functions {
+        list: writer,
+        ..SECOND
+    }));
 }
 
 #[test]
@@ -176,9 +186,9 @@ fn lines_with_another_end() {
 #[test]
 fn a_refused_line_cut_short() {
     // Said with the run's own number and the bytes written, then with 15.
-    assert_listing_caught(&|program, record, text| match (
-        listed(program, record, text),
-        accept(program, record),
+    assert_listing_caught(&|program, start, record, text| match (
+        listed(program, start, record, text),
+        accept(program, start, record),
     ) {
         (Told { number: 15, .. }, Err(Refusal { number, place })) => {
             let line = format!("refused {number} {place}\n");
@@ -187,9 +197,10 @@ fn a_refused_line_cut_short() {
         }
         (right, _) => right,
     });
-    assert_listing_caught(&|program, record, text| {
-        let right = listed(program, record, text);
-        if let (15, Err(Refusal { number, place })) = (right.number, accept(program, record)) {
+    assert_listing_caught(&|program, start, record, text| {
+        let right = listed(program, start, record, text);
+        if let (15, Err(Refusal { number, place })) = (right.number, accept(program, start, record))
+        {
             let line = format!("refused {number} {place}\n");
             text.copy_from_slice(&line.as_bytes()[..text.len()]);
         }
@@ -199,9 +210,9 @@ fn a_refused_line_cut_short() {
 
 #[test]
 fn a_refused_line_that_does_not_fit_told_with_its_own_number() {
-    assert_listing_caught(&|program, record, text| match (
-        listed(program, record, text),
-        accept(program, record),
+    assert_listing_caught(&|program, start, record, text| match (
+        listed(program, start, record, text),
+        accept(program, start, record),
     ) {
         (Told { number: 15, .. }, Err(Refusal { number, .. })) => told(number, 0),
         (right, _) => right,
@@ -210,17 +221,19 @@ fn a_refused_line_that_does_not_fit_told_with_its_own_number() {
 
 #[test]
 fn no_refused_line_written() {
-    assert_listing_caught(&|program, record, text| match accept(program, record) {
-        Ok(_) => listed(program, record, text),
-        Err(Refusal { number, .. }) => told(number, 0),
-    });
+    assert_listing_caught(
+        &|program, start, record, text| match accept(program, start, record) {
+            Ok(_) => listed(program, start, record, text),
+            Err(Refusal { number, .. }) => told(number, 0),
+        },
+    );
 }
 
 #[test]
 fn a_refused_runs_place_told_instead_of_its_bytes() {
-    assert_listing_caught(&|program, record, text| {
-        let right = listed(program, record, text);
-        match accept(program, record) {
+    assert_listing_caught(&|program, start, record, text| {
+        let right = listed(program, start, record, text);
+        match accept(program, start, record) {
             Err(refusal) if right.number != 15 => refusal.into(),
             _ => right,
         }
@@ -230,7 +243,7 @@ fn a_refused_runs_place_told_instead_of_its_bytes() {
 #[test]
 fn a_refused_or_ring_listing_told_as_an_order() {
     assert_listing_caught(
-        &|program, record, text| match listed(program, record, text) {
+        &|program, start, record, text| match listed(program, start, record, text) {
             Told {
                 number: 1..=13,
                 value,
@@ -239,7 +252,7 @@ fn a_refused_or_ring_listing_told_as_an_order() {
         },
     );
     assert_listing_caught(
-        &|program, record, text| match listed(program, record, text) {
+        &|program, start, record, text| match listed(program, start, record, text) {
             Told {
                 number: RING,
                 value,
@@ -252,11 +265,11 @@ fn a_refused_or_ring_listing_told_as_an_order() {
 #[test]
 fn listing_bytes_written_although_too_short() {
     // The lines that fit, then the bytes that fit.
-    let cut = |program: &[u8], record: &[u8], text: &mut [u8], whole_lines: bool| {
-        let short = listed(program, record, text);
+    let cut = |[program, start, record]: [&[u8]; 3], text: &mut [u8], whole_lines: bool| {
+        let short = listed(program, start, record, text);
         if short.number == 15 {
             let mut longer = vec![0; short.value];
-            listed(program, record, &mut longer);
+            listed(program, start, record, &mut longer);
             let fits = &longer[..text.len()];
             let lines = fits.iter().rposition(|&byte| byte == b'\n');
             let end = match whole_lines {
@@ -267,15 +280,19 @@ fn listing_bytes_written_although_too_short() {
         }
         short
     };
-    assert_listing_caught(&|program, record, text| cut(program, record, text, true));
-    assert_listing_caught(&|program, record, text| cut(program, record, text, false));
+    assert_listing_caught(&|program, start, record, text| {
+        cut([program, start, record], text, true)
+    });
+    assert_listing_caught(&|program, start, record, text| {
+        cut([program, start, record], text, false)
+    });
 }
 
 #[test]
 fn a_listing_memory_just_long_enough_refused() {
-    assert_listing_caught(&|program, record, text| {
+    assert_listing_caught(&|program, start, record, text| {
         let before = text.to_vec();
-        let done = listed(program, record, text);
+        let done = listed(program, start, record, text);
         if done.number != 15 && done.value == text.len() {
             text.copy_from_slice(&before);
             return told(15, text.len());
@@ -287,16 +304,16 @@ fn a_listing_memory_just_long_enough_refused() {
 #[test]
 fn too_short_said_before_a_run_is_refused() {
     // With the bytes of the shortest listing of an accepted run, `order 0`.
-    assert_listing_caught(&|program, record, text| match text.len() {
+    assert_listing_caught(&|program, start, record, text| match text.len() {
         0..8 => told(15, 8),
-        _ => listed(program, record, text),
+        _ => listed(program, start, record, text),
     });
 }
 
 #[test]
 fn bytes_beyond_the_listing_cleared() {
-    assert_listing_caught(&|program, record, text| {
-        let done = listed(program, record, text);
+    assert_listing_caught(&|program, start, record, text| {
+        let done = listed(program, start, record, text);
         if done.number != 15 {
             text[done.value..]
                 .iter_mut()
@@ -310,7 +327,7 @@ fn bytes_beyond_the_listing_cleared() {
 #[test]
 fn the_bytes_missing_from_a_listing_instead_of_those_needed() {
     assert_listing_caught(
-        &|program, record, text| match listed(program, record, text) {
+        &|program, start, record, text| match listed(program, start, record, text) {
             Told { number: 15, value } => told(15, value - text.len()),
             right => right,
         },
@@ -319,16 +336,16 @@ fn the_bytes_missing_from_a_listing_instead_of_those_needed() {
 
 #[test]
 fn a_listings_length_cut_to_16_bits() {
-    assert_listing_caught(&|program, record, text| {
+    assert_listing_caught(&|program, start, record, text| {
         let length = text.len() % 65_536;
-        listed(program, record, &mut text[..length])
+        listed(program, start, record, &mut text[..length])
     });
 }
 
 #[test]
 fn no_value_told_of_a_listing() {
-    assert_listing_caught(&|program, record, text| {
-        told(listed(program, record, text).number, usize::MAX)
+    assert_listing_caught(&|program, start, record, text| {
+        told(listed(program, start, record, text).number, usize::MAX)
     });
 }
 
@@ -351,15 +368,17 @@ fn cells_of_ranks_above_8_left_out() {
 
 #[test]
 fn lines_for_a_run_whose_sums_come_round() {
-    assert_listing_caught(&|program, record, memory| {
-        list_accepted(&lines_of, accept_dated(program, record), memory)
+    assert_listing_caught(&|program, start, record, memory| {
+        list_accepted(&lines_of, accept_dated(program, start, record), memory)
     });
 }
 
 #[test]
 fn nothing_written_for_18() {
-    assert_listing_caught(&|program, record, memory| match accept(program, record) {
-        Err(refusal) if refusal.number == 18 => refusal.into(),
-        accepted => list_accepted(&lines_of, accepted, memory),
-    });
+    assert_listing_caught(
+        &|program, start, record, memory| match accept(program, start, record) {
+            Err(refusal) if refusal.number == 18 => refusal.into(),
+            accepted => list_accepted(&lines_of, accepted, memory),
+        },
+    );
 }

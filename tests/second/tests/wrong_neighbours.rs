@@ -121,7 +121,7 @@ fn step(choice: Choice, program: &Program, machine: &mut Machine, item: &Item) -
 }
 
 /// The whole check with this choice.
-fn check(choice: Choice, inputs: [&[u8]; 2], lists: [&mut [u8]; 2]) -> Answer {
+fn check(choice: Choice, inputs: [&[u8]; 3], lists: [&mut [u8]; 2]) -> Answer {
     let step = |program: &Program, machine: &mut Machine, item: &Item| {
         step(choice, program, machine, item)
     };
@@ -130,22 +130,26 @@ fn check(choice: Choice, inputs: [&[u8]; 2], lists: [&mut [u8]; 2]) -> Answer {
 
 /// Fails unless a subject with this choice is caught, also on accepted records.
 fn assert_misjudged(choice: Choice) {
-    assert_caught_and_misjudged(&|program, record, order, cells| {
-        check(choice, [program, record], [order, cells])
+    assert_caught_and_misjudged(&|program, start, record, order, cells| {
+        check(choice, [program, start, record], [order, cells])
     });
 }
 
 /// Fails unless a subject with this choice is caught, be it on refused records only.
 fn assert_choice_caught(choice: Choice) {
-    assert_caught(&|program, record, order, cells| {
-        check(choice, [program, record], [order, cells])
+    assert_caught(&|program, start, record, order, cells| {
+        check(choice, [program, start, record], [order, cells])
     });
 }
 
 #[test]
 fn the_right_choice_is_not_caught() {
-    let subject: Subject = &|program, record, order, cells| {
-        check(|chance| chance.right(), [program, record], [order, cells])
+    let subject: Subject = &|program, start, record, order, cells| {
+        check(
+            |chance| chance.right(),
+            [program, start, record],
+            [order, cells],
+        )
     };
     assert_eq!(first_caught(subject), None);
     assert_eq!(first_misjudged(subject), None);
@@ -289,14 +293,14 @@ fn number_11_where_none_waits_for_the_rank() {
 
 #[test]
 fn number_10_where_the_place_differs() {
-    assert_caught(
-        &|program, record, order, cells| match check_bytes(program, record, order, cells) {
-            Answer::Refused(Refusal { number: 11, place }) if is_named(program, record, place) => {
-                refused(10, place)
-            }
-            other => other,
-        },
-    );
+    assert_caught(&|program, start, record, order, cells| match check_bytes(
+        program, start, record, order, cells,
+    ) {
+        Answer::Refused(Refusal { number: 11, place }) if is_named(program, record, place) => {
+            refused(10, place)
+        }
+        other => other,
+    });
 }
 
 /// Whether the item with this number names a remote rank.
@@ -307,20 +311,20 @@ fn is_named(program: &[u8], record: &[u8], item: usize) -> bool {
 
 #[test]
 fn number_5_for_a_rank_with_none_waiting() {
-    assert_caught(
-        &|program, record, order, cells| match check_bytes(program, record, order, cells) {
-            Answer::Refused(Refusal { number: 10, place }) if is_named(program, record, place) => {
-                refused(5, last_field(record, items_of(record)[place]))
-            }
-            other => other,
-        },
-    );
+    assert_caught(&|program, start, record, order, cells| match check_bytes(
+        program, start, record, order, cells,
+    ) {
+        Answer::Refused(Refusal { number: 10, place }) if is_named(program, record, place) => {
+            refused(5, last_field(record, items_of(record)[place]))
+        }
+        other => other,
+    });
 }
 
 #[test]
 fn the_remote_rank_judged_before_the_fields_before_it() {
-    assert_caught(&|program, record, order, cells| {
-        let answer = check_bytes(program, record, order, cells);
+    assert_caught(&|program, start, record, order, cells| {
+        let answer = check_bytes(program, start, record, order, cells);
         let Answer::Refused(Refusal { number: 5, place }) = answer else {
             return answer;
         };
@@ -339,14 +343,14 @@ fn the_remote_rank_judged_before_the_fields_before_it() {
 
 #[test]
 fn the_remote_rank_not_missed_at_the_end_of_the_record() {
-    assert_caught(&|program, record, order, cells| {
-        let answer = check_bytes(program, record, order, cells);
+    assert_caught(&|program, start, record, order, cells| {
+        let answer = check_bytes(program, start, record, order, cells);
         let Answer::Refused(Refusal { number: 4, place }) = answer else {
             return answer;
         };
         let missing = |&at: &usize| record[at] & 64 != 0 && last_field(record, at) == place;
         if place == record.len() && items_of(record).last().is_some_and(missing) {
-            return check_bytes(program, &[record, &[1]].concat(), order, cells);
+            return check_bytes(program, start, &[record, &[1]].concat(), order, cells);
         }
         answer
     });

@@ -15,6 +15,7 @@ use second::machine::{CommandId, Machine, Step};
 use second::order::{decide, Verdict};
 use second::program::{Kind, Program};
 use second::record::{read_record, Act, Item, Pop};
+use second::start::start_of;
 use std::cell::RefCell;
 use std::collections::BTreeMap;
 
@@ -25,13 +26,13 @@ type ArrowMistake<'a> = &'a dyn Fn(&[Step], &[usize]) -> Pairs;
 fn variant(
     step: StepMistake,
     draw: ArrowMistake,
-    [program, record]: [&[u8]; 2],
+    [program, start, record]: [&[u8]; 3],
     [order, cells]: [&mut [u8]; 2],
 ) -> Answer {
     let ready = Program::read(program).and_then(|program| {
+        let start = start_of(&program, start)?;
         let items = read_record(record, &program)?;
-        let run = replay_by(step, &program, &items)?;
-        Ok(run)
+        replay_by(step, &program, &start, &items)
     });
     let run = match ready {
         Ok(run) => run,
@@ -63,22 +64,22 @@ fn right_step(program: &Program, machine: &mut Machine, item: &Item) -> Result<S
 
 /// Fails unless this way to draw arrows is caught, also by the judge, which knows no arrows.
 fn assert_arrows_caught(draw: ArrowMistake) {
-    assert_caught_and_misjudged(&|program, record, order, cells| {
-        variant(&right_step, draw, [program, record], [order, cells])
+    assert_caught_and_misjudged(&|program, start, record, order, cells| {
+        variant(&right_step, draw, [program, start, record], [order, cells])
     });
 }
 
 /// Fails unless this way to do items is caught, also on accepted records.
 fn assert_steps_misjudged(step: StepMistake) {
-    assert_caught_and_misjudged(&|program, record, order, cells| {
-        variant(step, &arrows, [program, record], [order, cells])
+    assert_caught_and_misjudged(&|program, start, record, order, cells| {
+        variant(step, &arrows, [program, start, record], [order, cells])
     });
 }
 
 /// Fails unless this way to do items is caught, be it on refused records only.
 fn assert_steps_caught(step: StepMistake) {
-    assert_caught(&|program, record, order, cells| {
-        variant(step, &arrows, [program, record], [order, cells])
+    assert_caught(&|program, start, record, order, cells| {
+        variant(step, &arrows, [program, start, record], [order, cells])
     });
 }
 
@@ -94,8 +95,13 @@ fn filtered(steps: &[Step], group_of: &[usize], keep: fn(bool, bool) -> bool) ->
 
 #[test]
 fn the_parts_put_together_rightly_are_not_caught() {
-    let subject: Subject = &|program, record, order, cells| {
-        variant(&right_step, &arrows, [program, record], [order, cells])
+    let subject: Subject = &|program, start, record, order, cells| {
+        variant(
+            &right_step,
+            &arrows,
+            [program, start, record],
+            [order, cells],
+        )
     };
     assert_eq!(first_caught(subject), None);
     assert_eq!(first_misjudged(subject), None);

@@ -9,9 +9,9 @@ use second::bytes::{below, within, ByteReader};
 use second::check::{accept_items, fill_bytes, Accepted};
 use second::harness::Subject;
 use second::limits::{refuse, Outcome, LONG_COUNT};
-use second::machine::Start;
 use second::program::{read_transition, Kind, Program, Transition};
 use second::record::{maps, Act, Cell, Item, Pop, HIGH_BIT, REMOTE_BIT};
+use second::start::start_of;
 use std::ops::RangeInclusive;
 
 /// The field after which the high byte or the remote rank is read.
@@ -106,9 +106,10 @@ const RIGHT: Rules = Rules {
 };
 
 impl Rules {
-    /// Reads program and record, and replays.
-    fn accept(&self, program: &[u8], record: &[u8]) -> Outcome<Accepted> {
+    /// Reads program, start and record, and replays.
+    fn accept(&self, program: &[u8], start: &[u8], record: &[u8]) -> Outcome<Accepted> {
         let program = self.read_program(program)?;
+        let start = start_of(&program, start)?;
         let mut reader = ByteReader::new(record, 4);
         let count = reader.word_within(0..=1024, 5)?;
         let mut items = Vec::new();
@@ -116,8 +117,7 @@ impl Rules {
             items.push(self.read_item(&mut reader, &program)?);
         }
         reader.finish()?;
-        let start = Start::zero(&program);
-        accept_items(program, items, &start)
+        accept_items(program, start, items)
     }
 
     /// Reads a program.
@@ -278,22 +278,23 @@ impl Rules {
 
 /// Fails unless a subject with these rules is caught, be it on refused inputs only.
 fn assert_rules_caught(rules: Rules) {
-    assert_caught(&|program, record, order, cells| {
-        fill_bytes(rules.accept(program, record), order, cells)
+    assert_caught(&|program, start, record, order, cells| {
+        fill_bytes(rules.accept(program, start, record), order, cells)
     });
 }
 
 /// Fails unless a subject with these rules is caught, also on accepted records.
 fn assert_rules_misjudged(rules: Rules) {
-    assert_caught_and_misjudged(&|program, record, order, cells| {
-        fill_bytes(rules.accept(program, record), order, cells)
+    assert_caught_and_misjudged(&|program, start, record, order, cells| {
+        fill_bytes(rules.accept(program, start, record), order, cells)
     });
 }
 
 #[test]
 fn the_right_rules_are_not_caught() {
-    let subject: Subject =
-        &|program, record, order, cells| fill_bytes(RIGHT.accept(program, record), order, cells);
+    let subject: Subject = &|program, start, record, order, cells| {
+        fill_bytes(RIGHT.accept(program, start, record), order, cells)
+    };
     assert_eq!(first_caught(subject), None);
     assert_eq!(first_misjudged(subject), None);
 }

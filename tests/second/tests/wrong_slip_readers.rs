@@ -3,12 +3,15 @@
 mod common;
 
 use common::{assert_extras_caught, assert_extras_right, told};
-use second::extras::{listed, slip_read, slip_written, Extras, Reader, Told, DONE};
+use second::extras::{slip_read, Extras, Functions, Reader, Told, DONE, SECOND};
 use second::limits::Refusal;
 
 /// Fails unless this slip reader is caught.
 fn assert_slip_reader_caught(subject: Reader) {
-    let subject = Extras::between_guards(&slip_written, subject, &listed);
+    let subject = Extras::between_guards(Functions {
+        read_slip: subject,
+        ..SECOND
+    });
     assert_extras_caught("slip reader", &subject);
 }
 
@@ -150,7 +153,10 @@ fn assert_rules_caught(rules: Rules) {
 #[test]
 fn the_right_rules_are_not_caught() {
     let reader: Reader = &|ranks, slip, counts| read(&RIGHT, ranks, slip, counts);
-    assert_extras_right(&Extras::between_guards(&slip_written, reader, &listed));
+    assert_extras_right(&Extras::between_guards(Functions {
+        read_slip: reader,
+        ..SECOND
+    }));
 }
 
 #[test]

@@ -4,14 +4,17 @@ mod common;
 
 use common::{accept_dated, assert_extras_caught, assert_extras_right, told};
 use second::check::{accept, Accepted};
-use second::extras::{listed, slip_read, slip_written, Extras, Told, Writer, DONE};
+use second::extras::{slip_written, Extras, Functions, Told, Writer, DONE, SECOND};
 use second::limits::{Outcome, Refusal};
 use second::program::Kind;
 use second::slip::{map_bytes, slip_of};
 
 /// Fails unless this slip writer is caught.
 fn assert_slip_writer_caught(subject: Writer) {
-    let subject = Extras::between_guards(subject, &slip_read, &listed);
+    let subject = Extras::between_guards(Functions {
+        write_slip: subject,
+        ..SECOND
+    });
     assert_extras_caught("slip writer", &subject);
 }
 
@@ -19,10 +22,11 @@ fn assert_slip_writer_caught(subject: Writer) {
 fn write(
     slip_of: &dyn Fn(&Accepted) -> Vec<u8>,
     program: &[u8],
+    start: &[u8],
     record: &[u8],
     memory: &mut [u8],
 ) -> Told {
-    write_accepted(slip_of, accept(program, record), memory)
+    write_accepted(slip_of, accept(program, start, record), memory)
 }
 
 /// The same for what was accepted or refused.
@@ -44,7 +48,9 @@ fn write_accepted(
 
 /// Fails unless a slip writer with this way to make slips is caught.
 fn assert_slips_caught(slip_of: &dyn Fn(&Accepted) -> Vec<u8>) {
-    assert_slip_writer_caught(&|program, record, slip| write(slip_of, program, record, slip));
+    assert_slip_writer_caught(&|program, start, record, slip| {
+        write(slip_of, program, start, record, slip)
+    });
 }
 
 /// The map of these counts, with the bit that a rank's index is given.
@@ -97,11 +103,14 @@ fn counts_of(accepted: &Accepted) -> Vec<usize> {
 #[test]
 fn the_parts_put_together_rightly_are_not_caught() {
     assert_extras_right(&Extras::second());
-    let writer: Writer = &|program, record, memory| {
+    let writer: Writer = &|program, start, record, memory| {
         let slip = |accepted: &Accepted| slip_with(&counts_of(accepted), |index| index);
-        write(&slip, program, record, memory)
+        write(&slip, program, start, record, memory)
     };
-    assert_extras_right(&Extras::between_guards(writer, &slip_read, &listed));
+    assert_extras_right(&Extras::between_guards(Functions {
+        write_slip: writer,
+        ..SECOND
+    }));
 }
 
 #[test]
@@ -210,21 +219,21 @@ fn a_barrier_counted_for_rank_1_only() {
 
 #[test]
 fn a_slip_memory_too_short_said_before_the_replay() {
-    assert_slip_writer_caught(&|program, record, slip| {
+    assert_slip_writer_caught(&|program, start, record, slip| {
         if slip.is_empty() {
             return told(15, 1);
         }
-        slip_written(program, record, slip)
+        slip_written(program, start, record, slip)
     });
 }
 
 #[test]
 fn slip_bytes_written_although_too_short() {
-    assert_slip_writer_caught(&|program, record, slip| {
+    assert_slip_writer_caught(&|program, start, record, slip| {
         let mut longer = [0; 2 + 2 * 16];
-        let short = slip_written(program, record, slip);
+        let short = slip_written(program, start, record, slip);
         if short.number == 15 {
-            slip_written(program, record, &mut longer);
+            slip_written(program, start, record, &mut longer);
             slip.copy_from_slice(&longer[..slip.len()]);
         }
         short
@@ -233,9 +242,9 @@ fn slip_bytes_written_although_too_short() {
 
 #[test]
 fn a_slip_memory_just_long_enough_refused() {
-    assert_slip_writer_caught(&|program, record, slip| {
+    assert_slip_writer_caught(&|program, start, record, slip| {
         let before = slip.to_vec();
-        let done = slip_written(program, record, slip);
+        let done = slip_written(program, start, record, slip);
         if done == told(DONE, slip.len()) {
             slip.copy_from_slice(&before);
             return told(15, slip.len());
@@ -246,8 +255,8 @@ fn a_slip_memory_just_long_enough_refused() {
 
 #[test]
 fn an_empty_slip_for_a_refused_run() {
-    assert_slip_writer_caught(&|program, record, slip| {
-        let refusal = slip_written(program, record, slip);
+    assert_slip_writer_caught(&|program, start, record, slip| {
+        let refusal = slip_written(program, start, record, slip);
         if (1..=13).contains(&refusal.number) {
             slip.iter_mut().take(1).for_each(|byte| *byte = 0);
         }
@@ -257,8 +266,8 @@ fn an_empty_slip_for_a_refused_run() {
 
 #[test]
 fn bytes_beyond_the_slip_cleared() {
-    assert_slip_writer_caught(&|program, record, slip| {
-        let done = slip_written(program, record, slip);
+    assert_slip_writer_caught(&|program, start, record, slip| {
+        let done = slip_written(program, start, record, slip);
         if done.number == DONE {
             slip[done.value..].fill(0);
         }
@@ -268,26 +277,29 @@ fn bytes_beyond_the_slip_cleared() {
 
 #[test]
 fn the_bytes_missing_from_a_slip_instead_of_those_needed() {
-    assert_slip_writer_caught(
-        &|program, record, slip| match slip_written(program, record, slip) {
-            Told { number: 15, value } => told(15, value - slip.len()),
-            right => right,
-        },
-    );
+    assert_slip_writer_caught(&|program, start, record, slip| match slip_written(
+        program, start, record, slip,
+    ) {
+        Told { number: 15, value } => told(15, value - slip.len()),
+        right => right,
+    });
 }
 
 #[test]
 fn a_slips_length_cut_to_16_bits() {
-    assert_slip_writer_caught(&|program, record, slip| {
+    assert_slip_writer_caught(&|program, start, record, slip| {
         let length = slip.len() % 65_536;
-        slip_written(program, record, &mut slip[..length])
+        slip_written(program, start, record, &mut slip[..length])
     });
 }
 
 #[test]
 fn no_value_told_of_a_slip_written() {
-    assert_slip_writer_caught(&|program, record, slip| {
-        told(slip_written(program, record, slip).number, usize::MAX)
+    assert_slip_writer_caught(&|program, start, record, slip| {
+        told(
+            slip_written(program, start, record, slip).number,
+            usize::MAX,
+        )
     });
 }
 
@@ -337,16 +349,16 @@ fn a_map_cut_to_8_bits() {
 
 #[test]
 fn a_slip_for_a_run_whose_sums_come_round() {
-    assert_slip_writer_caught(&|program, record, memory| {
-        write_accepted(&slip_of, accept_dated(program, record), memory)
+    assert_slip_writer_caught(&|program, start, record, memory| {
+        write_accepted(&slip_of, accept_dated(program, start, record), memory)
     });
 }
 
 #[test]
 fn number_8_or_9_for_18() {
     for other in [8, 9] {
-        assert_slip_writer_caught(&|program, record, memory| {
-            let accepted = accept(program, record).map_err(|refusal| match refusal {
+        assert_slip_writer_caught(&|program, start, record, memory| {
+            let accepted = accept(program, start, record).map_err(|refusal| match refusal {
                 Refusal { number: 18, place } => Refusal {
                     number: other,
                     place,

@@ -17,23 +17,24 @@ fn the_second_program_itself_is_not_caught() {
 
 #[test]
 fn ring_for_every_run() {
-    let fault = assert_caught_and_misjudged(&|program, record, order, cells| match check_bytes(
-        program, record, order, cells,
-    ) {
-        Answer::Order(count) => Answer::Ring(count),
-        other => other,
-    });
+    let fault =
+        assert_caught_and_misjudged(&|program, start, record, order, cells| match check_bytes(
+            program, start, record, order, cells,
+        ) {
+            Answer::Order(count) => Answer::Ring(count),
+            other => other,
+        });
     assert!(fault.ends_with("but a plain run has the trace"), "{fault}");
 }
 
 /// Answers the record's own order instead of the orders and rings that are to be changed.
 fn own_order(
     changed: fn(Answer) -> bool,
-    [program, record]: [&[u8]; 2],
+    [program, start, record]: [&[u8]; 3],
     [order, cells]: [&mut [u8]; 2],
 ) -> Answer {
-    let answer = check_bytes(program, record, order, cells);
-    match accept(program, record) {
+    let answer = check_bytes(program, start, record, order, cells);
+    match accept(program, start, record) {
         Ok(accepted) if changed(answer) => {
             let groups = accepted.grouping.groups.len();
             let own: Vec<u16> = (0..groups as u16).collect();
@@ -46,40 +47,40 @@ fn own_order(
 
 #[test]
 fn its_records_own_order_for_every_run() {
-    assert_caught_and_misjudged(&|program, record, order, cells| {
+    assert_caught_and_misjudged(&|program, start, record, order, cells| {
         let changed = |answer| !matches!(answer, Answer::Refused(_));
-        own_order(changed, [program, record], [order, cells])
+        own_order(changed, [program, start, record], [order, cells])
     });
 }
 
 #[test]
 fn its_records_own_order_for_every_order() {
-    let fault = assert_caught_and_misjudged(&|program, record, order, cells| {
+    let fault = assert_caught_and_misjudged(&|program, start, record, order, cells| {
         let changed = |answer| matches!(answer, Answer::Order(_));
-        own_order(changed, [program, record], [order, cells])
+        own_order(changed, [program, start, record], [order, cells])
     });
     assert_eq!(fault, "the order written out has another trace");
 }
 
 #[test]
 fn its_records_own_order_for_every_ring() {
-    let fault = assert_caught_and_misjudged(&|program, record, order, cells| {
+    let fault = assert_caught_and_misjudged(&|program, start, record, order, cells| {
         let changed = |answer| matches!(answer, Answer::Ring(_));
-        own_order(changed, [program, record], [order, cells])
+        own_order(changed, [program, start, record], [order, cells])
     });
     assert!(fault.ends_with("but no plain run has the trace"), "{fault}");
 }
 
 #[test]
 fn a_refuser_of_all() {
-    assert_caught_and_misjudged(&|_, _, _, _| refused(1, 0));
+    assert_caught_and_misjudged(&|_, _, _, _, _| refused(1, 0));
 }
 
 #[test]
 fn a_number_that_is_no_answer() {
     for number in [16, 17, 19, 200, 254] {
-        assert_caught_and_misjudged(&|program, record, order, cells| match check_bytes(
-            program, record, order, cells,
+        assert_caught_and_misjudged(&|program, start, record, order, cells| match check_bytes(
+            program, start, record, order, cells,
         ) {
             Answer::Order(count) => refused(number, count),
             other => other,
@@ -90,8 +91,8 @@ fn a_number_that_is_no_answer() {
 #[test]
 fn a_count_beyond_the_list() {
     for count in [1_000_000, usize::MAX] {
-        assert_caught_and_misjudged(&|program, record, order, cells| match check_bytes(
-            program, record, order, cells,
+        assert_caught_and_misjudged(&|program, start, record, order, cells| match check_bytes(
+            program, start, record, order, cells,
         ) {
             Answer::Ring(_) => Answer::Ring(count),
             other => other,
@@ -101,9 +102,9 @@ fn a_count_beyond_the_list() {
 
 #[test]
 fn an_order_with_its_last_group_left_out() {
-    assert_caught_and_misjudged(&|program, record, order, cells| {
+    assert_caught_and_misjudged(&|program, start, record, order, cells| {
         let before = order.to_vec();
-        match check_bytes(program, record, order, cells) {
+        match check_bytes(program, start, record, order, cells) {
             Answer::Order(count) if count > 0 => {
                 let entry = 2 * (count - 1)..2 * count;
                 order[entry.clone()].copy_from_slice(&before[entry]);
@@ -116,8 +117,8 @@ fn an_order_with_its_last_group_left_out() {
 
 #[test]
 fn a_group_listed_twice() {
-    let fault = assert_caught_and_misjudged(&|program, record, order, cells| {
-        let answer = check_bytes(program, record, order, cells);
+    let fault = assert_caught_and_misjudged(&|program, start, record, order, cells| {
+        let answer = check_bytes(program, start, record, order, cells);
         if let Answer::Order(count @ 2..) = answer {
             order.copy_within(..2, 2 * (count - 1));
         }
@@ -128,8 +129,8 @@ fn a_group_listed_twice() {
 
 #[test]
 fn a_group_that_is_not_there() {
-    assert_caught_and_misjudged(&|program, record, order, cells| {
-        let answer = check_bytes(program, record, order, cells);
+    assert_caught_and_misjudged(&|program, start, record, order, cells| {
+        let answer = check_bytes(program, start, record, order, cells);
         if let Answer::Ring(count) = answer {
             fill_words(&mut order[2 * (count - 1)..], &[1_024]);
         }
@@ -139,8 +140,8 @@ fn a_group_that_is_not_there() {
 
 #[test]
 fn a_ring_begun_at_another_group() {
-    let fault = assert_caught_and_misjudged(&|program, record, order, cells| {
-        let answer = check_bytes(program, record, order, cells);
+    let fault = assert_caught_and_misjudged(&|program, start, record, order, cells| {
+        let answer = check_bytes(program, start, record, order, cells);
         if let Answer::Ring(count) = answer {
             order[..2 * count].rotate_left(2);
         }
@@ -151,22 +152,22 @@ fn a_ring_begun_at_another_group() {
 
 #[test]
 fn the_cell_list_left_untouched() {
-    assert_caught_and_misjudged(&|program, record, order, cells| {
-        check_bytes(program, record, order, &mut cells.to_vec())
+    assert_caught_and_misjudged(&|program, start, record, order, cells| {
+        check_bytes(program, start, record, order, &mut cells.to_vec())
     });
 }
 
 #[test]
 fn the_order_list_left_untouched() {
-    assert_caught_and_misjudged(&|program, record, order, cells| {
-        check_bytes(program, record, &mut order.to_vec(), cells)
+    assert_caught_and_misjudged(&|program, start, record, order, cells| {
+        check_bytes(program, start, record, &mut order.to_vec(), cells)
     });
 }
 
 #[test]
 fn bytes_written_past_the_entries() {
-    assert_caught_and_misjudged(&|program, record, order, cells| {
-        let answer = check_bytes(program, record, order, cells);
+    assert_caught_and_misjudged(&|program, start, record, order, cells| {
+        let answer = check_bytes(program, start, record, order, cells);
         if let Answer::Order(count) | Answer::Ring(count) = answer {
             order[2 * count..].fill(0);
         }
@@ -176,10 +177,10 @@ fn bytes_written_past_the_entries() {
 
 #[test]
 fn an_odd_last_byte_used() {
-    assert_caught(&|program, record, order, cells| {
+    assert_caught(&|program, start, record, order, cells| {
         let mut longer = order.to_vec();
         longer.resize(order.len().next_multiple_of(2), 0);
-        let answer = check_bytes(program, record, &mut longer, cells);
+        let answer = check_bytes(program, start, record, &mut longer, cells);
         order.copy_from_slice(&longer[..order.len()]);
         answer
     });
@@ -187,8 +188,8 @@ fn an_odd_last_byte_used() {
 
 #[test]
 fn lists_touched_on_a_refusal() {
-    assert_caught(&|program, record, order, cells| {
-        let answer = check_bytes(program, record, order, cells);
+    assert_caught(&|program, start, record, order, cells| {
+        let answer = check_bytes(program, start, record, order, cells);
         if matches!(answer, Answer::Refused(_)) {
             cells.iter_mut().take(2).for_each(|byte| *byte = 0);
         }
@@ -198,8 +199,8 @@ fn lists_touched_on_a_refusal() {
 
 #[test]
 fn low_byte_first() {
-    assert_caught_and_misjudged(&|program, record, order, cells| {
-        let answer = check_bytes(program, record, order, cells);
+    assert_caught_and_misjudged(&|program, start, record, order, cells| {
+        let answer = check_bytes(program, start, record, order, cells);
         if let Answer::Order(count) | Answer::Ring(count) = answer {
             order[..2 * count]
                 .chunks_exact_mut(2)
@@ -211,9 +212,9 @@ fn low_byte_first() {
 
 #[test]
 fn cells_looked_at_before_the_order_list() {
-    assert_caught(&|program, record, order, cells| match (
-        check_bytes(program, record, order, cells),
-        accept(program, record),
+    assert_caught(&|program, start, record, order, cells| match (
+        check_bytes(program, start, record, order, cells),
+        accept(program, start, record),
     ) {
         (Answer::Refused(_), Ok(accepted)) => {
             let needed = last_cells(&accepted.run.last).len();
@@ -228,7 +229,7 @@ fn cells_looked_at_before_the_order_list() {
 
 #[test]
 fn too_short_said_before_the_replay() {
-    assert_caught(&|program, record, order, cells| {
+    assert_caught(&|program, start, record, order, cells| {
         let read = Program::read(program);
         let items = read.and_then(|program| read_record(record, &program));
         let commands = |items: &[Item]| {
@@ -240,7 +241,7 @@ fn too_short_said_before_the_replay() {
         };
         match items {
             Ok(items) if order.len() / 2 < commands(&items) => refused(14, commands(&items)),
-            _ => check_bytes(program, record, order, cells),
+            _ => check_bytes(program, start, record, order, cells),
         }
     });
 }

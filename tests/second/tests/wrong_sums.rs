@@ -137,7 +137,7 @@ impl Rules {
     }
 
     /// The whole check by these rules.
-    fn check(&self, inputs: [&[u8]; 2], lists: [&mut [u8]; 2]) -> Answer {
+    fn check(&self, inputs: [&[u8]; 3], lists: [&mut [u8]; 2]) -> Answer {
         let step = |program: &Program, machine: &mut Machine, item: &Item| {
             self.step(program, machine, item)
         };
@@ -155,28 +155,31 @@ fn with_one(program: &Program, transition: Transition) -> Program {
 
 /// Fails unless a subject with these rules is caught, be it on refused records only.
 fn assert_rules_caught(rules: &Rules) {
-    assert_caught(&|program, record, order, cells| rules.check([program, record], [order, cells]));
+    assert_caught(&|program, start, record, order, cells| {
+        rules.check([program, start, record], [order, cells])
+    });
 }
 
 /// Fails unless a subject with these rules is caught, also on accepted records.
 fn assert_rules_misjudged(rules: &Rules) {
-    assert_caught_and_misjudged(&|program, record, order, cells| {
-        rules.check([program, record], [order, cells])
+    assert_caught_and_misjudged(&|program, start, record, order, cells| {
+        rules.check([program, start, record], [order, cells])
     });
 }
 
 #[test]
 fn the_right_rules_are_not_caught() {
-    let subject: Subject =
-        &|program, record, order, cells| RIGHT.check([program, record], [order, cells]);
+    let subject: Subject = &|program, start, record, order, cells| {
+        RIGHT.check([program, start, record], [order, cells])
+    };
     assert_eq!(first_caught(subject), None);
     assert_eq!(first_misjudged(subject), None);
 }
 
 #[test]
 fn sums_that_come_round() {
-    assert_caught(&|program, record, order, cells| {
-        fill_bytes(accept_dated(program, record), order, cells)
+    assert_caught(&|program, start, record, order, cells| {
+        fill_bytes(accept_dated(program, start, record), order, cells)
     });
 }
 
@@ -226,10 +229,10 @@ fn only_the_whole_expression_held_to_the_range() {
 fn values_of_17_bits_and_of_32() {
     for (least, most) in [(0, 131_071), (0, 4_294_967_295), (-65_535, 65_535)] {
         let within = |value: Wide| (least..=most).contains(&value).then_some(value);
-        let subject: Subject = &|program, record, order, cells| {
+        let subject: Subject = &|program, start, record, order, cells| {
             check_by(
                 &|program, machine, item| wide_step(&within, program, machine, item),
-                [program, record],
+                [program, start, record],
                 [order, cells],
             )
         };
@@ -443,8 +446,12 @@ fn another_number_for_18() {
 
 #[test]
 fn expressions_judged_one_after_the_other() {
-    assert_caught(&|program, record, order, cells| {
-        check_by(&one_after_the_other, [program, record], [order, cells])
+    assert_caught(&|program, start, record, order, cells| {
+        check_by(
+            &one_after_the_other,
+            [program, start, record],
+            [order, cells],
+        )
     });
 }
 
@@ -499,7 +506,7 @@ fn never_has_a_value(expression: &Expression) -> bool {
 
 #[test]
 fn constants_without_a_value_refused_in_the_program() {
-    assert_caught_and_misjudged(&|program, record, order, cells| {
+    assert_caught_and_misjudged(&|program, start, record, order, cells| {
         let read = Program::read(program);
         let mut transitions = read.iter().flat_map(|program| &program.transitions);
         let hopeless = |transition: &Transition| {
@@ -508,14 +515,14 @@ fn constants_without_a_value_refused_in_the_program() {
         };
         match transitions.position(hopeless) {
             Some(number) => refused(3, number),
-            None => check_bytes(program, record, order, cells),
+            None => check_bytes(program, start, record, order, cells),
         }
     });
 }
 
 #[test]
 fn every_transition_from_the_ranks_state_evaluated() {
-    assert_caught_and_misjudged(&|program, record, order, cells| {
+    assert_caught_and_misjudged(&|program, start, record, order, cells| {
         let step = |program: &Program, machine: &mut Machine, item: &Item| {
             let rank = item.act.rank();
             let state = machine.rank(rank).state;
@@ -535,7 +542,7 @@ fn every_transition_from_the_ranks_state_evaluated() {
             }
             machine.step(program, item)
         };
-        check_by(&step, [program, record], [order, cells])
+        check_by(&step, [program, start, record], [order, cells])
     });
 }
 
@@ -551,8 +558,8 @@ fn another_place_for_18() {
         },
     ];
     for other in others {
-        assert_caught(&|program, record, order, cells| match check_bytes(
-            program, record, order, cells,
+        assert_caught(&|program, start, record, order, cells| match check_bytes(
+            program, start, record, order, cells,
         ) {
             Answer::Refused(Refusal { number: 18, place }) => {
                 refused(18, other(program, record, place))
@@ -564,10 +571,10 @@ fn another_place_for_18() {
 
 #[test]
 fn lists_filled_although_18_is_told() {
-    assert_caught(&|program, record, order, cells| {
-        let answer = check_bytes(program, record, order, cells);
+    assert_caught(&|program, start, record, order, cells| {
+        let answer = check_bytes(program, start, record, order, cells);
         if let Answer::Refused(Refusal { number: 18, .. }) = answer {
-            fill_bytes(accept_dated(program, record), order, cells);
+            fill_bytes(accept_dated(program, start, record), order, cells);
         }
         answer
     });
@@ -575,7 +582,7 @@ fn lists_filled_although_18_is_told() {
 
 #[test]
 fn registers_at_the_start_in_every_expression() {
-    assert_caught_and_misjudged(&|program, record, order, cells| {
+    assert_caught_and_misjudged(&|program, start, record, order, cells| {
         let step = |program: &Program, machine: &mut Machine, item: &Item| {
             let now = machine.clone();
             let rank = item.act.rank();
@@ -595,6 +602,6 @@ fn registers_at_the_start_in_every_expression() {
             }
             Ok(done)
         };
-        check_by(&step, [program, record], [order, cells])
+        check_by(&step, [program, start, record], [order, cells])
     });
 }

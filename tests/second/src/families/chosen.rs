@@ -3,14 +3,16 @@
 use super::Named;
 use crate::check::{accept, accept_items, fill_bytes, Accepted, Answer};
 use crate::corpus::{Case, CheckCase, Expected};
+use crate::generator::edition::Edition;
 use crate::generator::rng::Rng;
-use crate::generator::{dated_small_run, input, input_of_document_01, small_run, Input, Maker};
+use crate::generator::{input_before_103, input_of_document_01, small_run, Input, Maker};
 use crate::judge::judge;
 use crate::limits::{number, Refusal, MAX_RANKS, MAX_SHORT_MAP_RANKS};
 use crate::machine::Start;
 use crate::order::Verdict;
 use crate::program::{Kind, Program};
 use crate::record::{read_record, record_bytes};
+use crate::start::shortest_bytes;
 use std::collections::{BTreeMap, BTreeSet};
 
 /// How many cases each class of `judged.txt` has for each kind that its groups may have.
@@ -52,11 +54,12 @@ fn kinds(accepted: &Accepted) -> BTreeSet<Kind> {
 pub fn judged_file(seed: u64) -> Result<Named, String> {
     let dated = Source {
         family: "judged",
-        maker: dated_small_run,
+        maker: small_run,
+        edition: Edition::Before102,
         seed,
         per_kind: PER_KIND,
     };
-    let cases = renewed_cases(&dated, "judged-later", small_run)?;
+    let cases = renewed_cases(&dated, "judged-later")?;
     let head = "# Small runs; each order or ring confirmed by the exhaustive judge.\n";
     Ok(Named::new("judged.txt", head, &cases))
 }
@@ -67,6 +70,8 @@ pub struct Source {
     pub family: &'static str,
     /// How a run is made.
     pub maker: Maker,
+    /// What it is made of.
+    pub edition: Edition,
     /// The seed.
     pub seed: u64,
     /// How many cases each class has for each kind that its groups may have.
@@ -113,27 +118,23 @@ pub fn judged_cases(source: &Source) -> Result<Vec<Case>, String> {
     chosen_cases(source, Wanted::of_each(source.per_kind))
 }
 
-/// The judged runs of a source from before #102, refused now or not, and after them runs of today
-/// in place of those that are refused.
-pub fn renewed_cases(
-    dated: &Source,
-    family: &'static str,
-    maker: Maker,
-) -> Result<Vec<Case>, String> {
+/// The judged runs of a source from before #102, refused now or not, and after them runs made with
+/// #102 in place of those that are refused.
+pub fn renewed_cases(dated: &Source, family: &'static str) -> Result<Vec<Case>, String> {
     let mut cases = judged_cases(dated)?;
     let mut wanted = Wanted::of_each(dated.per_kind);
     for case in &cases {
         let Case::Check(case) = case else { continue };
-        if let Ok(accepted) = accept(&case.program, &case.record) {
+        if let Ok(accepted) = accept(&case.program, &case.start, &case.record) {
             wanted.count(&accepted);
         }
     }
-    let today = Source {
+    let renewed = Source {
         family,
-        maker,
+        edition: Edition::Before103,
         ..*dated
     };
-    cases.extend(chosen_cases(&today, wanted)?);
+    cases.extend(chosen_cases(&renewed, wanted)?);
     Ok(cases)
 }
 
@@ -163,16 +164,16 @@ fn judged_case(
     wanted: &mut Wanted,
 ) -> Result<Option<CheckCase>, String> {
     let seed = source.seed;
-    let (program, items) = (source.maker)(&mut Rng::new(seed, index));
+    let (program, start, items) = (source.maker)(&mut Rng::new(seed, index), source.edition);
     let (bytes, record) = (program.to_bytes(), record_bytes(&items));
-    let start = Start::zero(&program);
-    let accepted = accept_items(program, items, &start)
+    let readings = shortest_bytes(&start);
+    let accepted = accept_items(program, start, items)
         .map_err(|refusal| format!("seed {seed}, index {index}: refused, {refusal:?}"))?;
     if !wanted.has(&accepted) || accepted.grouping.groups.len() < 2 {
         return Ok(None);
     }
-    if let Ok(accepted) = accept(&bytes, &record) {
-        judge(&accepted, &start).map_err(|fault| format!("seed {seed}, index {index}: {fault}"))?;
+    if let Ok(accepted) = accept(&bytes, &readings, &record) {
+        judge(&accepted).map_err(|fault| format!("seed {seed}, index {index}: {fault}"))?;
     }
     wanted.count(&accepted);
     let name = format!("{}-{index}", source.family);
@@ -182,7 +183,7 @@ fn judged_case(
     );
     let entries = (groups, cells * accepted.program.cells);
     Ok(Some(CheckCase::answered(
-        name, bytes, record, entries.0, entries.1,
+        name, bytes, readings, record, entries.0, entries.1,
     )))
 }
 
@@ -206,12 +207,12 @@ fn dated(program: &[u8]) -> Vec<u8> {
     dated
 }
 
-/// The answer to an input by document 01 alone, without #102, #105 and #107.
+/// The answer to an input without start bytes by document 01 alone, without #102, #105 and #107.
 fn dated_answer(input: &Input) -> Answer {
     let accepted = Program::read(&dated(&input.program)).and_then(|program| {
         let items = read_record(&input.record, &program)?;
         let start = Start::zero(&program);
-        accept_items(program.dated(), items, &start)
+        accept_items(program.dated(), start, items)
     });
     let (mut order, mut cells) = (vec![0; input.order_bytes], vec![0; input.cell_bytes]);
     fill_bytes(accepted, &mut order, &mut cells)
@@ -219,9 +220,7 @@ fn dated_answer(input: &Input) -> Answer {
 
 /// The case of an input, if it is refused: with its number and place, and the number in its name.
 fn refused(family: &str, index: u64, input: Input) -> Option<(CheckCase, Refusal)> {
-    let entries = (input.order_bytes / 2, input.cell_bytes / 2);
-    let (program, record) = (input.program, input.record);
-    let case = CheckCase::answered(String::new(), program, record, entries.0, entries.1);
+    let case = CheckCase::of_input(input);
     let Expected::Refused(refusal) = case.answer else {
         return None;
     };
@@ -236,7 +235,7 @@ fn is_short(input: &Input) -> bool {
 
 /// Refusals: for each number 1 to 15 some generated inputs at places as different as can be. They
 /// are made, and chosen by their answers, by document 01 alone, so that they are the same inputs
-/// still, and refused still. After them come inputs of today, for what a later request took away.
+/// still, and refused still. After them come inputs made with #102, for what it took away.
 pub fn refused_file(seed: u64) -> Result<Named, String> {
     let mut cases = dated_refusals(seed)?;
     cases.extend(later_refusals(&cases, seed)?);
@@ -280,14 +279,15 @@ fn dated_refusals(seed: u64) -> Result<Vec<(CheckCase, Refusal)>, String> {
     Ok(cases)
 }
 
-/// Inputs of today that bring each number of the check to so many places again.
+/// Inputs made with #102 that bring each number of the check, but for #103's, to so many places
+/// again.
 fn later_refusals(
     dated: &[(CheckCase, Refusal)],
     seed: u64,
 ) -> Result<Vec<(CheckCase, Refusal)>, String> {
     let of_the_check = number::ALL
         .into_iter()
-        .filter(|&number| number != number::SLIP);
+        .filter(|&number| ![number::SLIP, number::START].contains(&number));
     let mut found: BTreeMap<u8, BTreeSet<usize>> = of_the_check
         .map(|number| (number, BTreeSet::new()))
         .collect();
@@ -299,7 +299,7 @@ fn later_refusals(
         if found.values().all(|places| places.len() >= PER_NUMBER) {
             return Ok(cases);
         }
-        let input = input(seed, index);
+        let input = input_before_103(seed, index);
         if !is_short(&input) {
             continue;
         }

@@ -9,6 +9,7 @@ pub mod ranks;
 pub mod replay_table;
 pub mod row;
 pub mod slips;
+pub mod starts;
 pub mod sums;
 pub mod table;
 pub mod transitions;
@@ -18,7 +19,6 @@ use crate::check::accept;
 use crate::corpus::{Case, CheckCase};
 use crate::judge::judge_order;
 use crate::limits::{MAX_CELLS, MAX_ITEMS, MAX_SHORT_MAP_RANKS};
-use crate::machine::Start;
 use crate::order::Verdict;
 
 /// A corpus file: its name and its text.
@@ -54,6 +54,7 @@ pub fn files(seed: u64) -> Result<Vec<Named>, String> {
         ranks::file(seed)?,
         neighbours::file(seed)?,
         sums::file(seed)?,
+        starts::file(seed)?,
     ])
 }
 
@@ -70,15 +71,25 @@ const SEARCH_LIMIT: usize = 20_000;
 
 /// If an input is accepted, its order must be that of a plain run, and the search, if it comes to
 /// an end, must agree.
-fn judge_accepted(program: &[u8], record: &[u8]) -> Result<(), String> {
-    if let Ok(accepted) = accept(program, record) {
-        let start = Start::zero(&accepted.program);
+fn judge_accepted(program: &[u8], start: &[u8], record: &[u8]) -> Result<(), String> {
+    if let Ok(accepted) = accept(program, start, record) {
         if let Verdict::Order(order) = &accepted.verdict {
-            judge_order(&accepted, &start, order)?;
+            judge_order(&accepted, order)?;
         }
-        judge_bounded(&accepted, &start, SEARCH_LIMIT)?;
+        judge_bounded(&accepted, SEARCH_LIMIT)?;
     }
     Ok(())
+}
+
+/// The cases of rows by hand; one that the second program answers otherwise is a fault, and so is an
+/// order or ring that the searches do not confirm.
+fn cases_by_hand(rows: Vec<row::Row>) -> Result<Vec<Case>, String> {
+    let mut cases = Vec::new();
+    for row in rows {
+        judge_accepted(&row.program, &row.start, &row.record)?;
+        cases.push(row.case()?);
+    }
+    Ok(cases)
 }
 
 /// The file of extremes; every order is replayed as a plain run, and the searches that come to an
@@ -86,13 +97,18 @@ fn judge_accepted(program: &[u8], record: &[u8]) -> Result<(), String> {
 fn extremes_file() -> Result<Named, String> {
     let mut cases = Vec::new();
     for extreme in extremes::extremes() {
-        judge_accepted(&extreme.program, &extreme.record)?;
+        judge_accepted(&extreme.program, &[], &extreme.record)?;
         let name = extreme.name.to_string();
         let (program, record) = (extreme.program, extreme.record);
         // the extremes are from before #105 and have at most eight ranks
         let lists = (MAX_ITEMS, MAX_SHORT_MAP_RANKS * MAX_CELLS);
         cases.push(Case::Check(CheckCase::answered(
-            name, program, record, lists.0, lists.1,
+            name,
+            program,
+            Vec::new(),
+            record,
+            lists.0,
+            lists.1,
         )));
     }
     let head = "# Extremes: the limits of document 01 and the long ways round; run m among them.\n";

@@ -15,6 +15,8 @@ pub struct Row {
     pub name: String,
     /// The program bytes.
     pub program: Vec<u8>,
+    /// The start bytes; none unless they are given.
+    pub start: Vec<u8>,
     /// The record bytes.
     pub record: Vec<u8>,
     /// The length of the order list.
@@ -57,6 +59,7 @@ impl Row {
         Row {
             name: format!("{family}-{number}-{what}-at-{place}"),
             program,
+            start: Vec::new(),
             record,
             order_entries: ENTRIES,
             cell_entries: ENTRIES,
@@ -79,6 +82,7 @@ impl Row {
         Row {
             name: format!("{family}-{what}"),
             program: program.to_bytes(),
+            start: Vec::new(),
             record: record_bytes(items),
             order_entries: items.len() + 2,
             cell_entries: cells.len() + 2,
@@ -87,6 +91,12 @@ impl Row {
             slip: None,
             listing: None,
         }
+    }
+
+    /// The same row with start bytes.
+    pub fn from_start(mut self, start: Vec<u8>) -> Row {
+        self.start = start;
+        self
     }
 
     /// The same row with its slip by hand.
@@ -111,7 +121,14 @@ impl Row {
     /// The row as a case; it is a fault if the second program answers something else.
     pub fn case(self) -> Result<Case, String> {
         let (order, cells) = (self.order_entries, self.cell_entries);
-        let case = CheckCase::answered(self.name, self.program, self.record, order, cells);
+        let case = CheckCase::answered(
+            self.name,
+            self.program,
+            self.start,
+            self.record,
+            order,
+            cells,
+        );
         let by_hand = CheckCase {
             answer: self.answer,
             cells: self.cells,

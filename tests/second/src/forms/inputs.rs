@@ -222,6 +222,7 @@ fn accepted(stand: Stand, record: Vec<u8>) -> CheckCase {
     CheckCase {
         name: String::new(),
         program: program(stand == Stand::InLongRun),
+        start: Vec::new(),
         record,
         order_entries: ORDER.len() + 2,
         cell_entries: CELLS.len() + 2,

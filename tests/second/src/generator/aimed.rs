@@ -3,6 +3,7 @@
 
 use super::damage::{changed, intrude};
 use super::rng::Rng;
+use super::widen::Run;
 use super::Input;
 use crate::program::{count_bytes, long_count_bytes, Program};
 use crate::record::{record_bytes, Item, HIGH_BIT, REMOTE_BIT};
@@ -18,8 +19,9 @@ const OWNER: usize = 4;
 /// The place of the place's cell.
 const CELL: usize = 5;
 
-/// Damages an input made of this program and these items in one such way.
-pub fn damage(rng: &mut Rng, program: &Program, items: &mut Vec<Item>, input: &mut Input) {
+/// Damages an input made of this run in one such way.
+pub fn damage(rng: &mut Rng, run: &mut Run, input: &mut Input) {
+    let (program, start, items) = run;
     match rng.below(8) {
         0 | 1 => count(rng, program, &mut input.program),
         2..=4 if !items.is_empty() => {
@@ -32,7 +34,7 @@ pub fn damage(rng: &mut Rng, program: &Program, items: &mut Vec<Item>, input: &m
             input.record = record_bytes(items);
         }
         _ => {
-            intrude(rng, program, items);
+            intrude(rng, program, start, items);
             input.record = record_bytes(items);
         }
     }

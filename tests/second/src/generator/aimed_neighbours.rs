@@ -3,13 +3,14 @@
 
 use super::aimed::{change_item, MAP};
 use super::rng::Rng;
+use super::widen::Run;
 use super::Input;
 use crate::limits::MAX_ITEMS;
 use crate::program::{Kind, Program};
 use crate::record::{record_bytes, Item, REMOTE_BIT};
 
-/// Damages an input made of this program and these items in one such way.
-pub fn damage(rng: &mut Rng, program: &Program, items: &mut Vec<Item>, input: &mut Input) {
+/// Damages an input made of this run in one such way.
+pub fn damage(rng: &mut Rng, (program, _, items): &mut Run, input: &mut Input) {
     let pops = places(items, Kind::is_pop);
     if pops.is_empty() {
         return any_item(rng, program, items, &mut input.record);

@@ -2,13 +2,14 @@
 //! rows of many bars, and the length of the cell list.
 
 use super::rng::Rng;
+use super::widen::Run;
 use super::Input;
 use crate::limits::{MAX_ITEMS, MAX_SHORT_MAP_RANKS};
 use crate::program::{Kind, Program};
 use crate::record::{record_bytes, Item};
 
-/// Damages an input made of this program and these items in one such way.
-pub fn damage(rng: &mut Rng, program: &Program, items: &mut Vec<Item>, input: &mut Input) {
+/// Damages an input made of this run in one such way.
+pub fn damage(rng: &mut Rng, (program, _, items): &mut Run, input: &mut Input) {
     match rng.below(8) {
         0 | 1 => header(rng, program, &mut input.program),
         2..=4 => {

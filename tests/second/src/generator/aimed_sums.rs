@@ -6,6 +6,7 @@ use super::damage::changed;
 use super::edges::moved;
 use super::expressions::{Scope, Sums};
 use super::rng::Rng;
+use super::widen::Run;
 use super::Input;
 use crate::expression::Expression;
 use crate::limits::{MAX_ITEMS, MAX_TRANSITIONS};
@@ -13,9 +14,8 @@ use crate::machine::{Machine, Start};
 use crate::program::{Kind, Program, Transition};
 use crate::record::{record_bytes, Act, Item};
 
-/// Damages an input made of this program and these items in one such way; both stay those that the
-/// input is made of.
-pub fn damage(rng: &mut Rng, program: &mut Program, items: &mut Vec<Item>, input: &mut Input) {
+/// Damages an input made of this run in one such way; the run stays what the input is made of.
+pub fn damage(rng: &mut Rng, (program, start, items): &mut Run, input: &mut Input) {
     let mut places = places(program, items, |_| true);
     if places.is_empty() {
         return;
@@ -25,7 +25,7 @@ pub fn damage(rng: &mut Rng, program: &mut Program, items: &mut Vec<Item>, input
         places = if assumes.is_empty() { places } else { assumes };
     }
     let at = *rng.pick(&places);
-    let machine = machine_before(program, &items[..at]);
+    let machine = machine_before(program, start, &items[..at]);
     let taken = own_transition(program, &mut items[at]);
     let rank = items[at].act.rank();
     pass(rng, program, taken, (rank, &machine.rank(rank).registers));
@@ -67,8 +67,8 @@ fn own_transition(program: &mut Program, item: &mut Item) -> usize {
 }
 
 /// The machine after these items, or after those before the first that is refused.
-fn machine_before(program: &Program, items: &[Item]) -> Machine {
-    let mut machine = Machine::new(program, &Start::zero(program));
+fn machine_before(program: &Program, start: &Start, items: &[Item]) -> Machine {
+    let mut machine = Machine::new(program, start);
     for item in items {
         if machine.step(program, item).is_err() {
             break;

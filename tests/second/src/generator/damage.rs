@@ -1,6 +1,7 @@
 //! Damage of every kind, so that every refusal comes up at many places.
 
 use super::rng::Rng;
+use super::widen::Run;
 use super::Input;
 use crate::limits::MAX_ITEMS;
 use crate::machine::{Machine, Start};
@@ -8,8 +9,9 @@ use crate::program::{Kind, Program};
 use crate::record::{maps, record_bytes, Act, Cell, Item, Pop};
 use std::collections::BTreeMap;
 
-/// Damages an input made of this program and these items, in one random way.
-pub fn damage(rng: &mut Rng, program: &Program, items: &mut Vec<Item>, input: &mut Input) {
+/// Damages an input made of this run in one random way.
+pub fn damage(rng: &mut Rng, run: &mut Run, input: &mut Input) {
+    let (program, start, items) = run;
     match rng.below(20) {
         0 => bytes(rng, &mut input.program),
         1 => header(rng, &mut input.program),
@@ -24,14 +26,14 @@ pub fn damage(rng: &mut Rng, program: &Program, items: &mut Vec<Item>, input: &m
             input.record = record_bytes(items);
         }
         _ => {
-            intrude(rng, program, items);
+            intrude(rng, program, start, items);
             input.record = record_bytes(items);
         }
     }
 }
 
 /// Changes, drops or adds a byte, or cuts or lengthens the whole.
-fn bytes(rng: &mut Rng, bytes: &mut Vec<u8>) {
+pub(super) fn bytes(rng: &mut Rng, bytes: &mut Vec<u8>) {
     let at = rng.below(bytes.len() + 1);
     let byte = near_byte(rng);
     match rng.below(5) {
@@ -204,7 +206,7 @@ fn change_act(rng: &mut Rng, program: &Program, act: &mut Act, some_rank: usize)
 }
 
 /// Puts in an item that does not belong there: a pop, a bar, or a command that is refused.
-pub fn intrude(rng: &mut Rng, program: &Program, items: &mut Vec<Item>) {
+pub fn intrude(rng: &mut Rng, program: &Program, start: &Start, items: &mut Vec<Item>) {
     if items.len() >= MAX_ITEMS {
         return;
     }
@@ -216,7 +218,7 @@ pub fn intrude(rng: &mut Rng, program: &Program, items: &mut Vec<Item>) {
         1 => Some(Act::PopB(Pop::of_all(rank, queue))),
         2 => any_command(rng, program, Some(Kind::Bar)),
         3 => any_command(rng, program, None),
-        _ => refused_command(rng, program, &items[..at]),
+        _ => refused_command(rng, program, start, &items[..at]),
     };
     if let Some(act) = act {
         items.insert(at, claimed(rng, program, act));
@@ -240,8 +242,13 @@ fn any_command(rng: &mut Rng, program: &Program, kind: Option<Kind>) -> Option<A
 
 /// A command from the right state that the machine refuses after these items; each of the
 /// numbers it can be refused with is as likely.
-fn refused_command(rng: &mut Rng, program: &Program, before: &[Item]) -> Option<Act> {
-    let mut machine = Machine::new(program, &Start::zero(program));
+fn refused_command(
+    rng: &mut Rng,
+    program: &Program,
+    start: &Start,
+    before: &[Item],
+) -> Option<Act> {
+    let mut machine = Machine::new(program, start);
     for item in before {
         machine.step(program, item).ok()?;
     }

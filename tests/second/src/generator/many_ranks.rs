@@ -1,5 +1,6 @@
 //! Runs of programs with more than eight ranks: #105.
 
+use super::edition::Edition;
 use super::programs::{every_rank, program_of, CROWDED, SMALL, WIDE};
 use super::rng::Rng;
 use super::widen::Run;
@@ -15,17 +16,12 @@ const SHORT: Profile = Profile {
 };
 
 /// A random small run, for the exhaustive judge.
-pub fn small_run(rng: &mut Rng) -> Run {
-    run(rng, SHORT)
-}
-
-/// A random small run as before #102.
-pub fn dated_small_run(rng: &mut Rng) -> Run {
-    run(rng, SHORT.dated())
+pub fn small_run(rng: &mut Rng, edition: Edition) -> Run {
+    run(rng, SHORT, edition)
 }
 
 /// A random run: mostly a short one, now and then up to all limits.
-pub fn any_run(rng: &mut Rng) -> Run {
+pub fn any_run(rng: &mut Rng, edition: Edition) -> Run {
     let profile = match rng.below(24) {
         0..=11 => SHORT,
         12..=17 => Profile {
@@ -44,22 +40,22 @@ pub fn any_run(rng: &mut Rng) -> Run {
             groups: 1024,
         },
     };
-    run(rng, profile)
+    run(rng, profile, edition)
 }
 
 /// A random run of a program with more than eight ranks; one in three programs has a bar from each
 /// state, so that rows come about, and one in ten has all the cells.
-fn run(rng: &mut Rng, profile: Profile) -> Run {
+fn run(rng: &mut Rng, profile: Profile, edition: Edition) -> Run {
     let ranks = many(rng);
     let busy = busy(rng, ranks);
-    let mut program = program_of(rng, profile.size, ranks, &busy);
+    let mut program = program_of(rng, profile.size, ranks, &busy, edition);
     if rng.chance(1, 3) {
         add_bars(rng, &mut program);
     }
     if rng.chance(1, 10) {
         program.cells = MAX_CELLS;
     }
-    executed(rng, program, &busy, profile)
+    executed(rng, program, &busy, profile, edition)
 }
 
 /// An N above eight, often at an end of its range.

@@ -3,24 +3,30 @@
 pub mod aimed;
 pub mod aimed_neighbours;
 pub mod aimed_ranks;
+pub mod aimed_starts;
 pub mod aimed_sums;
 pub mod damage;
 pub mod edges;
+pub mod edition;
 pub mod executions;
 pub mod expressions;
 pub mod loosen;
 pub mod many_ranks;
 pub mod neighbours;
 pub mod programs;
+pub mod readings;
 pub mod rng;
 pub mod slips;
+pub mod starts;
 pub mod widen;
 
 use crate::families::extremes::extremes;
-use crate::limits::{MAX_RANKS, MAX_SHORT_COUNT, MAX_SHORT_MAP_RANKS};
+use crate::limits::{MAX_SHORT_COUNT, MAX_SHORT_MAP_RANKS};
 use crate::machine::Start;
 use crate::program::{Kind, Program};
 use crate::record::{read_record, record_bytes, Item};
+use crate::start::{shortest_bytes, start_bytes};
+use edition::Edition;
 use executions::{execution, pace, Pace};
 use programs::{every_rank, Size, CROWDED, MIDDLE, SMALL, WIDE};
 use rng::Rng;
@@ -31,6 +37,8 @@ use widen::{now_and_then, Run};
 pub struct Input {
     /// The program bytes.
     pub program: Vec<u8>,
+    /// The start bytes.
+    pub start: Vec<u8>,
     /// The record bytes.
     pub record: Vec<u8>,
     /// The bytes of the order list.
@@ -50,14 +58,6 @@ struct Profile {
     groups: usize,
 }
 
-impl Profile {
-    /// The same profile for programs as they were before #102.
-    fn dated(self) -> Profile {
-        let size = self.size.dated();
-        Profile { size, ..self }
-    }
-}
-
 /// Small runs, for the exhaustive judge: at most 16 items in at most 7 groups.
 const SMALL_PROFILE: Profile = Profile {
     size: SMALL,
@@ -66,26 +66,27 @@ const SMALL_PROFILE: Profile = Profile {
 };
 
 /// A random small run, for the exhaustive judge.
-pub fn small_run(rng: &mut Rng) -> Run {
-    run(rng, SMALL_PROFILE)
+pub fn small_run(rng: &mut Rng, edition: Edition) -> Run {
+    run(rng, SMALL_PROFILE, edition)
 }
 
-/// A random small run as before #102.
-pub fn dated_small_run(rng: &mut Rng) -> Run {
-    run(rng, SMALL_PROFILE.dated())
-}
-
-/// A random program and an execution of it from document 01's start.
-fn run(rng: &mut Rng, profile: Profile) -> Run {
-    let program = programs::program(rng, profile.size);
+/// A random program and an execution of it.
+fn run(rng: &mut Rng, profile: Profile, edition: Edition) -> Run {
+    let program = programs::program(rng, profile.size, edition);
     let busy = every_rank(program.ranks);
-    executed(rng, program, &busy, profile)
+    executed(rng, program, &busy, profile, edition)
 }
 
-/// The program with an execution of it from document 01's start, in which these ranks are busy.
-fn executed(rng: &mut Rng, program: Program, busy: &[usize], profile: Profile) -> Run {
+/// The program with an execution of it, in which these ranks are busy.
+fn executed(
+    rng: &mut Rng,
+    program: Program,
+    busy: &[usize],
+    profile: Profile,
+    edition: Edition,
+) -> Run {
     let pace = paced(rng, profile);
-    executed_at(rng, program, busy, pace)
+    executed_at(rng, program, busy, pace, edition)
 }
 
 /// A random pace for a profile, one in eight that of plain runs.
@@ -98,37 +99,44 @@ fn paced(rng: &mut Rng, profile: Profile) -> Pace {
     pace
 }
 
-/// The program with an execution of it at this pace; a plain run is loosened.
-fn executed_at(rng: &mut Rng, program: Program, busy: &[usize], pace: Pace) -> Run {
-    let mut items = execution(rng, &program, busy, &Start::zero(&program), pace);
+/// The program with an execution of it at this pace, from readings now and then; a plain run is
+/// loosened.
+fn executed_at(
+    rng: &mut Rng,
+    mut program: Program,
+    busy: &[usize],
+    pace: Pace,
+    edition: Edition,
+) -> Run {
+    let start = match edition {
+        Edition::Today => readings::now_and_then(rng, &mut program),
+        _ => Start::zero(&program),
+    };
+    let mut items = execution(rng, &program, busy, &start, pace);
     if pace.at_once {
         loosen::loosen(rng, &program, &mut items);
     }
-    (program, items)
+    (program, start, items)
 }
 
 /// A long random run whose trace a plain run has: a plain run, loosened.
-pub fn long_loosened_run(rng: &mut Rng) -> Run {
+pub fn long_loosened_run(rng: &mut Rng, edition: Edition) -> Run {
     let size = *rng.pick(&[CROWDED, WIDE]);
-    let program = programs::program(rng, size);
+    let program = programs::program(rng, size, edition);
     let mut pace = pace(rng, 1024, 1024);
     pace.at_once = true;
     let busy = every_rank(program.ranks);
-    let mut items = execution(rng, &program, &busy, &Start::zero(&program), pace);
-    loosen::loosen(rng, &program, &mut items);
-    (program, items)
+    executed_at(rng, program, &busy, pace, edition)
 }
 
 /// A random run of middle length, at most 40 items, with any delays.
-pub fn middle_run(rng: &mut Rng) -> Run {
-    run(
-        rng,
-        Profile {
-            size: MIDDLE,
-            items: 40,
-            groups: 24,
-        },
-    )
+pub fn middle_run(rng: &mut Rng, edition: Edition) -> Run {
+    let profile = Profile {
+        size: MIDDLE,
+        items: 40,
+        groups: 24,
+    };
+    run(rng, profile, edition)
 }
 
 /// A random profile: mostly small runs, now and then up to all limits.
@@ -183,31 +191,29 @@ fn drawn_extreme(rng: &mut Rng) -> Option<Run> {
     let extreme = rng.pick(&extremes);
     let program = Program::read(&extreme.program).ok()?;
     let items = read_record(&extreme.record, &program).ok()?;
-    Some((program, items))
+    let start = Start::zero(&program);
+    Some((program, start, items))
 }
 
 /// A run for an input: mostly a random one, now and then an extreme.
-fn any_run(rng: &mut Rng) -> Run {
-    if let Some(extreme) = drawn_extreme(rng) {
-        return extreme;
+fn any_run(rng: &mut Rng, edition: Edition) -> Run {
+    if let Some((program, start, items)) = drawn_extreme(rng) {
+        return (edition.evaluated(program), start, items);
     }
     let profile = profile(rng);
-    run(rng, profile)
-}
-
-/// The same as before #102.
-fn dated_any_run(rng: &mut Rng) -> Run {
-    if let Some((program, items)) = drawn_extreme(rng) {
-        return (program.dated(), items);
-    }
-    let profile = profile(rng).dated();
-    run(rng, profile)
+    run(rng, profile, edition)
 }
 
 /// The input for a run, with lists that are long enough or a little longer.
-fn roomy(rng: &mut Rng, program: &Program, items: &[Item]) -> Input {
+fn roomy(rng: &mut Rng, (program, start, items): &Run, edition: Edition) -> Input {
+    let written_out = edition == Edition::Today && rng.chance(1, 5);
     Input {
         program: program.to_bytes(),
+        start: if written_out {
+            start_bytes(start)
+        } else {
+            shortest_bytes(start)
+        },
         record: record_bytes(items),
         order_bytes: 2 * group_count(program, items) + rng.below(6),
         cell_bytes: 2 * program.ranks * program.cells + rng.below(6),
@@ -217,34 +223,12 @@ fn roomy(rng: &mut Rng, program: &Program, items: &[Item]) -> Input {
 /// The small input of this number under this seed, for the exhaustive judge; none is damaged.
 pub fn small_input(seed: u64, index: u64) -> Input {
     let mut rng = Rng::new(seed, index);
-    let (program, items) = later_run(&mut rng, SMALL_RUNS);
-    roomy(&mut rng, &program, &items)
-}
-
-/// What inputs are made of.
-#[derive(Debug, Clone, Copy, PartialEq, Eq)]
-enum Edition {
-    /// Document 01 alone, as the older corpus files were made. Nothing is drawn for #102, #105,
-    /// #107 and #108, so that they come out the same.
-    Document01,
-    /// #102, #105, #107 and #108 too: sums at the edges of the range, programs of more than 8
-    /// ranks and of more than 128 transitions, transfers that overtake each other, and damage aimed
-    /// at all of these.
-    Later,
-}
-
-impl Edition {
-    /// The largest N.
-    fn most_ranks(self) -> usize {
-        match self {
-            Edition::Document01 => MAX_SHORT_MAP_RANKS,
-            Edition::Later => MAX_RANKS,
-        }
-    }
+    let run = later_run(&mut rng, SMALL_RUNS, Edition::Today);
+    roomy(&mut rng, &run, Edition::Today)
 }
 
 /// A way to make a random run.
-pub type Maker = fn(&mut Rng) -> Run;
+pub type Maker = fn(&mut Rng, Edition) -> Run;
 
 /// The ways to make a run of any request.
 #[derive(Debug, Clone, Copy)]
@@ -272,19 +256,24 @@ const ANY_RUNS: Makers = Makers {
 
 /// A run of one of the makings: four in twenty of more than eight ranks, and six with transfers
 /// that overtake each other; now and then widened.
-pub fn later_run(rng: &mut Rng, makers: Makers) -> Run {
+pub fn later_run(rng: &mut Rng, makers: Makers, edition: Edition) -> Run {
     let maker = match rng.below(20) {
         0..=3 => makers.many_ranks,
         4..=9 => makers.neighbours,
         _ => makers.few_ranks,
     };
-    let run = maker(rng);
+    let run = maker(rng, edition);
     now_and_then(rng, run)
 }
 
 /// The input of this number under this seed; half of them are damaged.
 pub fn input(seed: u64, index: u64) -> Input {
-    made(seed, index, Edition::Later)
+    made(seed, index, Edition::Today)
+}
+
+/// The input of this number under this seed as before #103.
+pub fn input_before_103(seed: u64, index: u64) -> Input {
+    made(seed, index, Edition::Before103)
 }
 
 /// The input of this number under this seed as document 01 alone has them.
@@ -295,35 +284,44 @@ pub fn input_of_document_01(seed: u64, index: u64) -> Input {
 /// The input of this number under this seed.
 fn made(seed: u64, index: u64, edition: Edition) -> Input {
     let mut rng = Rng::new(seed, index);
-    let (mut program, mut items) = match edition {
-        Edition::Document01 => dated_any_run(&mut rng),
-        Edition::Later => later_run(&mut rng, ANY_RUNS),
+    let mut run = match edition {
+        Edition::Document01 => any_run(&mut rng, edition),
+        _ => later_run(&mut rng, ANY_RUNS, edition),
     };
-    let mut input = roomy(&mut rng, &program, &items);
-    if edition == Edition::Later && rng.chance(1, 8) {
-        aimed_sums::damage(&mut rng, &mut program, &mut items, &mut input);
+    let mut input = roomy(&mut rng, &run, edition);
+    if edition >= Edition::Before103 && rng.chance(1, 8) {
+        aimed_sums::damage(&mut rng, &mut run, &mut input);
     }
     if rng.chance(1, 2) {
         let times = *rng.pick(&[1, 1, 1, 2]);
         for _ in 0..times {
-            damage::damage(&mut rng, &program, &mut items, &mut input);
+            damage::damage(&mut rng, &mut run, &mut input);
         }
     }
-    if edition == Edition::Later {
-        let long = program.transitions.len() > MAX_SHORT_COUNT;
-        if is_aimed(&mut rng, long) {
-            aimed::damage(&mut rng, &program, &mut items, &mut input);
-        }
-        let many = program.ranks > MAX_SHORT_MAP_RANKS;
-        if is_aimed(&mut rng, many) {
-            aimed_ranks::damage(&mut rng, &program, &mut items, &mut input);
-        }
-        let named = items.iter().any(names_remote);
-        if is_aimed(&mut rng, named) {
-            aimed_neighbours::damage(&mut rng, &program, &mut items, &mut input);
-        }
+    if edition >= Edition::Before103 {
+        aimed_damage(&mut rng, &mut run, &mut input);
+    }
+    let without_start = input.start.is_empty();
+    if edition == Edition::Today && rng.chance(1, if without_start { 16 } else { 4 }) {
+        aimed_starts::damage(&mut rng, &run, &mut input);
     }
     input
+}
+
+/// Damages an input now and then in ways aimed at #107, #105 and #108.
+fn aimed_damage(rng: &mut Rng, run: &mut Run, input: &mut Input) {
+    let long = run.0.transitions.len() > MAX_SHORT_COUNT;
+    if is_aimed(rng, long) {
+        aimed::damage(rng, run, input);
+    }
+    let many = run.0.ranks > MAX_SHORT_MAP_RANKS;
+    if is_aimed(rng, many) {
+        aimed_ranks::damage(rng, run, input);
+    }
+    let named = run.2.iter().any(names_remote);
+    if is_aimed(rng, named) {
+        aimed_neighbours::damage(rng, run, input);
+    }
 }
 
 /// Whether an item is a pop that names a remote rank.

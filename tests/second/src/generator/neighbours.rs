@@ -1,5 +1,6 @@
 //! Runs in which transfers of one queue overtake each other: #108.
 
+use super::edition::Edition;
 use super::executions::Pace;
 use super::many_ranks::add_bars;
 use super::programs::{every_rank, program_of, Size, CROWDED, MIDDLE, SMALL};
@@ -8,9 +9,8 @@ use super::widen::Run;
 use super::{executed_at, paced, Profile};
 use crate::expression::Expression;
 use crate::limits::MAX_RANKS;
-use crate::machine::{Machine, Start};
+use crate::machine::Machine;
 use crate::program::{Kind, Program, Transition};
-use crate::record::Item;
 
 /// Short runs of few groups, for the exhaustive judge.
 const SHORT: Profile = Profile {
@@ -20,17 +20,12 @@ const SHORT: Profile = Profile {
 };
 
 /// A random small run, for the exhaustive judge.
-pub fn small_run(rng: &mut Rng) -> Run {
-    run(rng, SHORT)
-}
-
-/// A random small run as before #102.
-pub fn dated_small_run(rng: &mut Rng) -> Run {
-    run(rng, SHORT.dated())
+pub fn small_run(rng: &mut Rng, edition: Edition) -> Run {
+    run(rng, SHORT, edition)
 }
 
 /// A random run: mostly a short one, now and then up to the limit of items.
-pub fn any_run(rng: &mut Rng) -> Run {
+pub fn any_run(rng: &mut Rng, edition: Edition) -> Run {
     let profile = match rng.below(24) {
         0..=15 => SHORT,
         16..=19 => Profile {
@@ -49,11 +44,11 @@ pub fn any_run(rng: &mut Rng) -> Run {
             groups: 1024,
         },
     };
-    run(rng, profile)
+    run(rng, profile, edition)
 }
 
 /// A random run, short or long, whose trace a plain run has: a plain run, loosened.
-pub fn loosened_run(rng: &mut Rng) -> Run {
+pub fn loosened_run(rng: &mut Rng, edition: Edition) -> Run {
     let profile = Profile {
         size: *rng.pick(&[MIDDLE, CROWDED]),
         items: *rng.pick(&[60, 1024]),
@@ -61,22 +56,22 @@ pub fn loosened_run(rng: &mut Rng) -> Run {
     };
     let mut pace = paced(rng, profile);
     pace.at_once = true;
-    run_at(rng, profile.size, pace)
+    run_at(rng, profile.size, pace, edition)
 }
 
 /// A random run of a profile.
-fn run(rng: &mut Rng, profile: Profile) -> Run {
+fn run(rng: &mut Rng, profile: Profile, edition: Edition) -> Run {
     let pace = paced(rng, profile);
-    run_at(rng, profile.size, pace)
+    run_at(rng, profile.size, pace, edition)
 }
 
 /// A random run of a program with many transfers, whose pops name remote ranks now and then. A
 /// plain run that is loosened must have all of them named; names are taken away afterwards. Pops
 /// come seldom while there are commands, so that queues fill.
-fn run_at(rng: &mut Rng, size: Size, mut pace: Pace) -> Run {
+fn run_at(rng: &mut Rng, size: Size, mut pace: Pace, edition: Edition) -> Run {
     let ranks = *rng.pick(&[1, 2, 2, 3, 3, 3, 3, 4, 9, MAX_RANKS]);
     let remote = remote(rng, ranks);
-    let mut program = program_of(rng, size, ranks, &remote);
+    let mut program = program_of(rng, size, ranks, &remote, edition);
     add_transfers(rng, &mut program, &remote);
     if rng.chance(1, 4) {
         add_bars(rng, &mut program);
@@ -85,9 +80,9 @@ fn run_at(rng: &mut Rng, size: Size, mut pace: Pace) -> Run {
     (pace.command, pace.popa, pace.popb) = (6, rng.below(3), rng.below(3));
     let often = rng.within(1..=4);
     pace.naming = if pace.at_once { 4 } else { often };
-    let (program, mut items) = executed_at(rng, program, &busy, pace);
-    thin(rng, &program, &mut items);
-    (program, items)
+    let mut run = executed_at(rng, program, &busy, pace, edition);
+    thin(rng, &mut run);
+    run
 }
 
 /// The ranks that transfers go to and come from: all if they are few, and else the first, a middle
@@ -129,9 +124,9 @@ fn add_transfers(rng: &mut Rng, program: &mut Program, ranks: &[usize]) {
 }
 
 /// Takes names away from pops that take the oldest of all entries, so many in four.
-fn thin(rng: &mut Rng, program: &Program, items: &mut [Item]) {
+fn thin(rng: &mut Rng, (program, start, items): &mut Run) {
     let in_four = *rng.pick(&[0, 2, 4]);
-    let mut machine = Machine::new(program, &Start::zero(program));
+    let mut machine = Machine::new(program, start);
     for item in items {
         let oldest = machine.remotes_waiting(item.act).first().copied();
         if let Some(pop) = item.act.pop_mut() {

@@ -1,6 +1,7 @@
 //! Random readable programs.
 
-use super::expressions::{expression, Role, Scope, Sums};
+use super::edition::Edition;
+use super::expressions::{expression, Role, Scope};
 use super::rng::Rng;
 use crate::program::{Kind, Program, Transition};
 
@@ -21,18 +22,6 @@ pub struct Size {
     pub transitions: usize,
     /// The most operators in an expression, but for those at an edge; 7 make 15 tokens.
     pub operators: usize,
-    /// How sums, differences and products are drawn.
-    pub sums: Sums,
-}
-
-impl Size {
-    /// The same size for programs as they were before #102.
-    pub fn dated(self) -> Size {
-        Size {
-            sums: Sums::Dated,
-            ..self
-        }
-    }
 }
 
 /// Small programs, for records that the exhaustive judge can take.
@@ -44,7 +33,6 @@ pub const SMALL: Size = Size {
     states: 4,
     transitions: 9,
     operators: 2,
-    sums: Sums::Edged,
 };
 /// Programs of two or three ranks, for records of middle length.
 pub const MIDDLE: Size = Size {
@@ -55,7 +43,6 @@ pub const MIDDLE: Size = Size {
     states: 6,
     transitions: 16,
     operators: 4,
-    sums: Sums::Edged,
 };
 /// Programs up to all the limits of document 01; `widen` takes them beyond its T, `many_ranks`
 /// beyond its N.
@@ -67,7 +54,6 @@ pub const WIDE: Size = Size {
     states: 64,
     transitions: 128,
     operators: 7,
-    sums: Sums::Edged,
 };
 /// Programs of many ranks and few cells, where accesses meet often.
 pub const CROWDED: Size = Size {
@@ -78,7 +64,6 @@ pub const CROWDED: Size = Size {
     states: 6,
     transitions: 20,
     operators: 7,
-    sums: Sums::Edged,
 };
 
 /// The kinds of transitions, each as often as it is to be drawn.
@@ -109,13 +94,19 @@ pub fn every_rank(ranks: usize) -> Vec<usize> {
 }
 
 /// A random readable program of at most this size, rather of several ranks than of one.
-pub fn program(rng: &mut Rng, size: Size) -> Program {
+pub fn program(rng: &mut Rng, size: Size, edition: Edition) -> Program {
     let ranks = rng.within(1..=size.ranks).max(rng.within(1..=size.ranks));
-    program_of(rng, size, ranks, &every_rank(ranks))
+    program_of(rng, size, ranks, &every_rank(ranks), edition)
 }
 
 /// A random readable program of so many ranks and else at most this size; constants name busy ranks.
-pub fn program_of(rng: &mut Rng, size: Size, ranks: usize, busy: &[usize]) -> Program {
+pub fn program_of(
+    rng: &mut Rng,
+    size: Size,
+    ranks: usize,
+    busy: &[usize],
+    edition: Edition,
+) -> Program {
     let mut program = Program {
         ranks,
         cells: rng.within(1..=size.cells),
@@ -132,15 +123,12 @@ pub fn program_of(rng: &mut Rng, size: Size, ranks: usize, busy: &[usize]) -> Pr
             program: &program,
             busy,
             registers: &[],
-            sums: size.sums,
+            sums: edition.sums(),
         };
         let transition = transition(rng, scope, number, size.operators);
         program.transitions.push(transition);
     }
-    match size.sums {
-        Sums::Dated => program.dated(),
-        Sums::Edged => program,
-    }
+    edition.evaluated(program)
 }
 
 /// A random transition; the first S of them leave each state once and lead on to the next.

@@ -1,7 +1,7 @@
 //! Random slips, right and damaged.
 
+use super::edition::Edition;
 use super::rng::Rng;
-use super::Edition;
 use crate::slip::map_bytes;
 
 /// One input of the slip reader.
@@ -17,7 +17,7 @@ pub struct SlipInput {
 
 /// The slip input of this number under this seed; about half of them are damaged.
 pub fn slip_input(seed: u64, index: u64) -> SlipInput {
-    made(seed, index, Edition::Later)
+    made(seed, index, Edition::Today)
 }
 
 /// The slip input of this number under this seed as document 01 alone has them.
@@ -44,7 +44,7 @@ fn made(seed: u64, index: u64, edition: Edition) -> SlipInput {
     if rng.chance(1, 2) {
         damage(&mut rng, &mut input, edition);
     }
-    if edition == Edition::Later && rng.chance(1, 6) {
+    if edition == Edition::Today && rng.chance(1, 6) {
         damage_map(&mut rng, &mut input);
     }
     input

@@ -4,6 +4,7 @@ use super::expressions::{Scope, Sums};
 use super::programs::{every_rank, transition};
 use super::rng::Rng;
 use crate::limits::MAX_TRANSITIONS;
+use crate::machine::Start;
 use crate::program::{Program, Transition};
 use crate::record::{Act, Item};
 
@@ -17,8 +18,8 @@ const EDGES: [usize; 6] = [256, 255, 257, 0, 128, 127];
 /// The most operators in an expression that only fills up.
 const OPERATORS: usize = 1;
 
-/// A run: a program, and items that it accepts.
-pub type Run = (Program, Vec<Item>);
+/// A run: a program, a start, and items that are accepted from it.
+pub type Run = (Program, Start, Vec<Item>);
 
 /// The run, one in six times of a widened program.
 pub fn now_and_then(rng: &mut Rng, run: Run) -> Run {
@@ -30,7 +31,7 @@ pub fn now_and_then(rng: &mut Rng, run: Run) -> Run {
 }
 
 /// The same run of a program that has more transitions, each of the old ones at some places.
-pub fn widened(rng: &mut Rng, (program, mut items): Run) -> Run {
+pub fn widened(rng: &mut Rng, (program, start, mut items): Run) -> Run {
     let some = rng.within(program.transitions.len()..=MAX_TRANSITIONS);
     let size = *rng.pick(&[&SIZES[..], &[some]].concat());
     let size = size.max(program.transitions.len());
@@ -45,7 +46,7 @@ pub fn widened(rng: &mut Rng, (program, mut items): Run) -> Run {
         transitions,
         ..program
     };
-    (program, items)
+    (program, start, items)
 }
 
 /// One of a transition's new numbers, often the first.

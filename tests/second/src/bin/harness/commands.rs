@@ -4,7 +4,7 @@ use crate::subject::Tested;
 use crate::{Done, Failure};
 use second::bounded::judge_bounded;
 use second::check::{accept, check_bytes, Answer};
-use second::corpus::{Case, CheckCase, Expected, SlipCase};
+use second::corpus::{to_hex, Case, CheckCase, Expected, SlipCase, StartReadCase, StartWriteCase};
 use second::corpus_reader::{corpus_files, read_file};
 use second::extras::{
     askable, compare_all_ranks, compare_extras, compare_slip_reader, Extras, Tally,
@@ -13,13 +13,14 @@ use second::families;
 use second::forms::hold::{hold, Readers};
 use second::forms::table::Table;
 use second::generator::slips::{slip_input, SlipInput};
+use second::generator::starts::{start_read_case, start_write_case};
 use second::generator::{input, small_input, Input};
-use second::harness::{between_guards, compare, compare_case, Histogram};
+use second::harness::{between_guards, compare, compare_case, input_of, Histogram};
 use second::judge::{judge, judge_order};
 use second::judged::{judge_observed, Verdicts};
 use second::listing::listing_of_directory;
-use second::machine::Start;
 use second::order::Verdict;
+use second::start_extras::{compare_start_reader, compare_start_writer};
 use std::collections::BTreeSet;
 use std::fmt::Write;
 use std::fs;
@@ -31,7 +32,7 @@ const JUDGED_GROUPS: usize = 7;
 const SEARCHED_GROUPS: usize = 20;
 /// Places the bounded search may visit before it gives up.
 const SEARCH_LIMIT: usize = 100;
-/// For one of so many generated inputs slip writer, slip reader and listing are compared, too.
+/// For one of so many generated inputs the functions beside the check are compared, too.
 const EXTRAS_EVERY: u64 = 3;
 
 /// What a command counts: the answers of the check, and what the other functions told.
@@ -56,9 +57,15 @@ pub fn corpus(tested: &Tested, directory: &str) -> Done {
             }
             match &case {
                 Case::Check(case) => corpus_check(tested, case, &mut counts)?,
-                Case::Slip(case) => {
-                    corpus_slip(tested, case, &mut counts)?;
-                    not_asked += usize::from(!askable(case));
+                Case::Slip(slip) => {
+                    both_readers(tested, slip, &mut counts).map_err(of_case(&case))?;
+                    not_asked += usize::from(!askable(slip));
+                }
+                Case::StartWrite(write) => {
+                    both_start_writers(tested, write, &mut counts).map_err(of_case(&case))?;
+                }
+                Case::StartRead(read) => {
+                    both_start_readers(tested, read, &mut counts).map_err(of_case(&case))?;
                 }
             }
         }
@@ -83,10 +90,11 @@ fn corpus_check(tested: &Tested, case: &CheckCase, counts: &mut Counts) -> Resul
     Ok(())
 }
 
-/// One case of the slip reader: subject and second program.
-fn corpus_slip(tested: &Tested, case: &SlipCase, counts: &mut Counts) -> Result<(), Failure> {
-    let named = |fault: String| Failure::Disagreement(format!("slip case {}\n{fault}", case.name));
-    both_readers(tested, case, counts).map_err(named)
+/// What is printed of a fault in a case, with the case's first line.
+fn of_case(case: &Case) -> impl Fn(String) -> Failure {
+    let text = case.to_text();
+    let line = text.lines().next().unwrap_or_default().to_string();
+    move |fault| Failure::Disagreement(format!("{line}\n{fault}"))
 }
 
 /// What is printed of a fault of the second program.
@@ -112,6 +120,32 @@ fn both_readers(tested: &Tested, case: &SlipCase, counts: &mut Counts) -> Result
     Ok(())
 }
 
+/// Compares the writers of start bytes of both programs with a case, and counts its answer.
+fn both_start_writers(
+    tested: &Tested,
+    case: &StartWriteCase,
+    counts: &mut Counts,
+) -> Result<(), String> {
+    compare_start_writer(&tested.extras, case, &mut counts.tally)?;
+    compare_start_writer(&Extras::second(), case, &mut Tally::default())
+        .map_err(|fault| of_second(&fault))?;
+    counts.histogram.count_start(case.answer.clone().map(drop));
+    Ok(())
+}
+
+/// Compares the readers of start bytes of both programs with a case, and counts its answer.
+fn both_start_readers(
+    tested: &Tested,
+    case: &StartReadCase,
+    counts: &mut Counts,
+) -> Result<(), String> {
+    compare_start_reader(&tested.extras, case, &mut counts.tally)?;
+    compare_start_reader(&Extras::second(), case, &mut Tally::default())
+        .map_err(|fault| of_second(&fault))?;
+    counts.histogram.count_start(case.answer.clone().map(drop));
+    Ok(())
+}
+
 /// Compares the subject with the second program on generated inputs, and judges their verdicts.
 pub fn generated(tested: &Tested, seed: u64, count: u64) -> Done {
     let mut counts = Counts::default();
@@ -132,6 +166,10 @@ pub fn generated(tested: &Tested, seed: u64, count: u64) -> Done {
         if index % EXTRAS_EVERY == 0 {
             generated_extras(tested, &input, &mut counts).map_err(named)?;
             generated_slip(tested, &slip_input(seed, index), &mut counts).map_err(named)?;
+            both_start_writers(tested, &start_write_case(seed, index), &mut counts)
+                .map_err(named)?;
+            both_start_readers(tested, &start_read_case(seed, index), &mut counts)
+                .map_err(named)?;
         }
     }
     let Counts { histogram, tally } = counts;
@@ -144,27 +182,23 @@ pub fn generated(tested: &Tested, seed: u64, count: u64) -> Done {
 
 /// Judges an accepted input: every order as a plain run, and records by search if not too long.
 fn searched(input: &Input) -> Result<Option<Verdict>, String> {
-    let accepted = accept(&input.program, &input.record)
+    let accepted = accept(&input.program, &input.start, &input.record)
         .map_err(|refusal| format!("accepted and refused: {refusal:?}"))?;
-    let start = Start::zero(&accepted.program);
     if accepted.grouping.groups.len() <= JUDGED_GROUPS {
-        judge(&accepted, &start)?;
+        judge(&accepted)?;
         return Ok(Some(accepted.verdict));
     }
     if let Verdict::Order(order) = &accepted.verdict {
-        judge_order(&accepted, &start, order)?;
+        judge_order(&accepted, order)?;
     }
     let short = accepted.grouping.groups.len() <= SEARCHED_GROUPS;
-    let ended = short && judge_bounded(&accepted, &start, SEARCH_LIMIT)?;
+    let ended = short && judge_bounded(&accepted, SEARCH_LIMIT)?;
     Ok(ended.then_some(accepted.verdict))
 }
 
-/// Slip writer and listing on a generated input, and the slip reader on that slip.
+/// The functions beside the check on a generated input.
 fn generated_extras(tested: &Tested, input: &Input, counts: &mut Counts) -> Result<(), String> {
-    let (program, record) = (input.program.clone(), input.record.clone());
-    let entries = (input.order_bytes / 2, input.cell_bytes / 2);
-    let case = CheckCase::answered(String::new(), program, record, entries.0, entries.1);
-    both_extras(tested, &case, counts)
+    both_extras(tested, &CheckCase::of_input(input.clone()), counts)
 }
 
 /// The slip reader on a generated slip, the subject's also for every other N.
@@ -246,11 +280,13 @@ pub fn show(file: &str, name: Option<&str>) -> Done {
 fn shown(case: &Case) -> String {
     let (again, lines) = match case {
         Case::Check(case) => {
-            let (program, record) = (case.program.clone(), case.record.clone());
-            let entries = (case.order_entries, case.cell_entries);
-            let again =
-                CheckCase::answered(case.name.clone(), program, record, entries.0, entries.1);
-            let lines = format!("{}\n{}", answer_line(&again), again.listing);
+            let again = CheckCase {
+                name: case.name.clone(),
+                ..CheckCase::of_input(input_of(case, 0))
+            };
+            let mut lines = start_line(&case.start);
+            let _ = writeln!(lines, "{}", answer_line(&again));
+            lines.push_str(&again.listing);
             (Case::Check(again), lines)
         }
         Case::Slip(case) => {
@@ -259,6 +295,28 @@ fn shown(case: &Case) -> String {
             let lines = format!("answer {:?}\n", again.answer);
             (Case::Slip(again), lines)
         }
+        Case::StartWrite(case) => {
+            let (name, program, cells) = (&case.name, &case.program, &case.cells);
+            let again = StartWriteCase::answered(
+                name.clone(),
+                program.clone(),
+                cells.clone(),
+                case.start_bytes,
+            );
+            let lines = format!("cells {cells:?}\nanswer {:?}\n", again.answer);
+            (Case::StartWrite(again), lines)
+        }
+        Case::StartRead(case) => {
+            let (name, program, start) = (&case.name, &case.program, &case.start);
+            let again = StartReadCase::answered(
+                name.clone(),
+                program.clone(),
+                start.clone(),
+                case.cell_entries,
+            );
+            let lines = format!("{}answer {:?}\n", start_line(start), again.answer);
+            (Case::StartRead(again), lines)
+        }
     };
     let same = if again == *case {
         "as the file says"
@@ -266,6 +324,14 @@ fn shown(case: &Case) -> String {
         "NOT as the file says"
     };
     format!("{}: {same}\n{lines}", case.name())
+}
+
+/// The start bytes of a case in one line, if there are any.
+fn start_line(start: &[u8]) -> String {
+    if start.is_empty() {
+        return String::new();
+    }
+    format!("start {}\n", to_hex(start))
 }
 
 /// The answer of a check case in one line.
@@ -279,7 +345,8 @@ fn answer_line(case: &CheckCase) -> String {
     }
 }
 
-/// The listing program on a directory's `run.prg` and `run.rec`; a file not opened is empty.
+/// The listing program on a directory's `run.prg`, `run.sta` and `run.rec`; a file not opened is
+/// empty.
 pub fn listing(directory: &str) -> Done {
     let directory = Path::new(directory);
     if !directory.is_dir() {

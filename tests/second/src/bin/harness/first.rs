@@ -1,26 +1,19 @@
-//! The one place where the first program's C functions are called, and the one place with `unsafe`.
+//! The one place where the first program's C functions are called, and with `pages.rs` beside it the
+//! one place with `unsafe`.
 //!
-//! They are `lellmusu_check`, `lellmusu_write_slip`, `lellmusu_read_slip` and `lellmusu_list` of
-//! `include/lellmusu.h`. They are lent the areas of a call in one of two ways: as slices, which the
-//! harness puts between guards (`check` and the functions after it), or at the ends of pages that
-//! are followed by memory without access (`Pages`), so that the hardware catches a byte read or
-//! written past an end. A caught access ends the harness with a report of the call. The system's
-//! constants and layouts are those of Linux on 64-bit machines.
+//! They are `lellmusu_check`, `lellmusu_write_slip`, `lellmusu_read_slip`, `lellmusu_list`,
+//! `lellmusu_write_start` and `lellmusu_read_start` of `include/lellmusu.h`. They are lent the areas
+//! of a call in one of two ways: as slices, which the harness puts between guards (`check` and
+//! `FUNCTIONS`), or at the ends of pages (`Pages`).
 
+mod pages;
+
+pub use pages::Pages;
 use second::check::Answer;
-use second::extras::{Seen, Told, DONE, RING};
-use second::generator::Input;
-use second::harness::{lent, Observed, GUARD};
+use second::extras::{Functions, Told, DONE, RING};
 use second::limits::Refusal;
-use std::ffi::c_void;
-use std::fmt::{self, Write};
-use std::io::Error;
 use std::ptr;
-use std::slice;
 use std::sync::atomic::{AtomicPtr, Ordering::SeqCst};
-
-#[cfg(not(all(target_os = "linux", target_pointer_width = "64")))]
-compile_error!("the constants and layouts in first.rs are those of Linux on 64-bit machines");
 
 #[link(name = "lellmusu", kind = "static")]
 extern "C" {
@@ -29,6 +22,8 @@ extern "C" {
     fn lellmusu_check(
         program: *const u8,
         program_length: usize,
+        start: *const u8,
+        start_length: usize,
         record: *const u8,
         record_length: usize,
         order: *mut u8,
@@ -43,6 +38,8 @@ extern "C" {
     fn lellmusu_write_slip(
         program: *const u8,
         program_length: usize,
+        start: *const u8,
+        start_length: usize,
         record: *const u8,
         record_length: usize,
         slip: *mut u8,
@@ -66,69 +63,42 @@ extern "C" {
     fn lellmusu_list(
         program: *const u8,
         program_length: usize,
+        start: *const u8,
+        start_length: usize,
         record: *const u8,
         record_length: usize,
         text: *mut u8,
         text_length: usize,
         value: *mut usize,
     ) -> u8;
-}
 
-extern "C" {
-    /// Maps memory.
-    fn mmap(at: *mut u8, length: usize, access: i32, kind: i32, file: i32, offset: i64) -> *mut u8;
-    /// Gives mapped memory back.
-    fn munmap(at: *mut u8, length: usize) -> i32;
-    /// Changes what may be done with mapped memory.
-    fn mprotect(at: *mut u8, length: usize, access: i32) -> i32;
-    /// Changes what happens on a signal.
-    fn sigaction(signal: i32, action: *const Action, before: *mut Action) -> i32;
-    /// Writes to an open file, without a buffer.
-    fn write(file: i32, bytes: *const u8, length: usize) -> isize;
-    /// Ends the process at once.
-    fn _exit(status: i32) -> !;
+    /// The writer of start bytes: 0, and `value` gets the bytes written; else the refusal's number,
+    /// and `value` gets its place. The cell list has two bytes an entry, and its length is in bytes.
+    fn lellmusu_write_start(
+        program: *const u8,
+        program_length: usize,
+        cells: *const u8,
+        cells_length: usize,
+        start: *mut u8,
+        start_length: usize,
+        value: *mut usize,
+    ) -> u8;
+
+    /// The reader of start bytes: 0, and `value` gets the entries filled; else the refusal's number,
+    /// and `value` gets its place. The cell list is as above.
+    fn lellmusu_read_start(
+        program: *const u8,
+        program_length: usize,
+        start: *const u8,
+        start_length: usize,
+        cells: *mut u8,
+        cells_length: usize,
+        value: *mut usize,
+    ) -> u8;
 }
 
 /// What stands in `value` before a call: no count and no place of a record.
 const NO_VALUE: usize = usize::MAX;
-
-/// Memory that may not be touched.
-const NO_ACCESS: i32 = 0;
-/// Memory that may be read.
-const READ: i32 = 1;
-/// Memory that may be read and written.
-const READ_AND_WRITE: i32 = 1 | 2;
-/// Memory of this process alone, with no file behind it.
-const PRIVATE_ANONYMOUS: i32 = 0x02 | 0x20;
-/// Regions and the memory without access around them are multiples of this, as it is of a page.
-const STEP: usize = 65_536;
-
-/// The signal of an access that the hardware caught.
-const FAULT: i32 = 11;
-/// The handler is told the address, has a stack of its own, and is taken away once it runs.
-const TOLD_ASIDE_ONCE: u32 = 0x4 | 0x0800_0000 | 0x8000_0000;
-
-/// What to do on a signal, as the system's library lays it out.
-#[repr(C)]
-struct Action {
-    /// What is called.
-    handler: extern "C" fn(i32, *const Signalled, *mut c_void),
-    /// The signals held back meanwhile.
-    held_back: [u64; 16],
-    /// How it is called.
-    flags: u32,
-    /// Filled in by the system's library.
-    restorer: usize,
-}
-
-/// The beginning of what a handler is told.
-#[repr(C)]
-struct Signalled {
-    /// The signal, an error number, and a code.
-    head: [i32; 3],
-    /// The address that was touched.
-    address: usize,
-}
 
 /// A lent area.
 #[derive(Clone, Copy)]
@@ -174,6 +144,10 @@ enum Function {
     ReadSlip(u8),
     /// The listing.
     List,
+    /// The writer of start bytes.
+    WriteStart,
+    /// The reader of start bytes.
+    ReadStart,
 }
 
 impl Function {
@@ -189,14 +163,20 @@ impl Function {
             Function::WriteSlip => "lellmusu_write_slip",
             Function::ReadSlip(_) => "lellmusu_read_slip",
             Function::List => "lellmusu_list",
+            Function::WriteStart => "lellmusu_write_start",
+            Function::ReadStart => "lellmusu_read_start",
         }
     }
 
     /// What it reads; an area that it does not have has no name.
-    fn read_names(self) -> [&'static str; 2] {
+    fn read_names(self) -> [&'static str; 3] {
         match self {
-            Function::Check | Function::WriteSlip | Function::List => ["program", "record"],
-            Function::ReadSlip(_) => ["slip", ""],
+            Function::Check | Function::WriteSlip | Function::List => {
+                ["program", "start", "record"]
+            }
+            Function::ReadSlip(_) => ["slip", "", ""],
+            Function::WriteStart => ["program", "cell list", ""],
+            Function::ReadStart => ["program", "start", ""],
         }
     }
 
@@ -207,6 +187,8 @@ impl Function {
             Function::WriteSlip => ["slip", ""],
             Function::ReadSlip(_) => ["list of counts", ""],
             Function::List => ["text", ""],
+            Function::WriteStart => ["start", ""],
+            Function::ReadStart => ["cell list", ""],
         }
     }
 }
@@ -216,7 +198,7 @@ struct Call {
     /// The function.
     function: Function,
     /// The areas that are only read.
-    read: [Area; 2],
+    read: [Area; 3],
     /// The areas that are filled.
     filled: [Area; 2],
     /// Where the count, length or place goes.
@@ -244,44 +226,90 @@ impl Call {
     /// Safety: as above.
     unsafe fn number(&self) -> u8 {
         let Call {
-            read: [one, two],
+            read: [one, two, three],
             filled: [list, cells],
             value,
             ..
         } = *self;
-        let writer = match self.function {
-            Function::Check => {
-                return lellmusu_check(
-                    one.start,
-                    one.length,
-                    two.start,
-                    two.length,
-                    list.start,
-                    list.length,
-                    cells.start,
-                    cells.length,
-                    value,
-                );
-            }
+        match self.function {
+            Function::Check => lellmusu_check(
+                one.start,
+                one.length,
+                two.start,
+                two.length,
+                three.start,
+                three.length,
+                list.start,
+                list.length,
+                cells.start,
+                cells.length,
+                value,
+            ),
             Function::ReadSlip(ranks) => {
                 let counts = list.start.cast::<u16>();
                 let entries = list.length / size_of::<u16>();
-                return lellmusu_read_slip(ranks, one.start, one.length, counts, entries, value);
+                lellmusu_read_slip(ranks, one.start, one.length, counts, entries, value)
             }
-            Function::WriteSlip => lellmusu_write_slip,
-            Function::List => lellmusu_list,
-        };
-        writer(
+            Function::WriteSlip => self.of_a_run(lellmusu_write_slip),
+            Function::List => self.of_a_run(lellmusu_list),
+            Function::WriteStart => self.of_a_start(lellmusu_write_start),
+            Function::ReadStart => self.of_a_start(lellmusu_read_start),
+        }
+    }
+
+    /// Calls a function that reads program, start and record, and fills one area.
+    ///
+    /// Safety: as above.
+    unsafe fn of_a_run(&self, function: OfRun) -> u8 {
+        let [one, two, three] = self.read;
+        let [list, _] = self.filled;
+        function(
+            one.start,
+            one.length,
+            two.start,
+            two.length,
+            three.start,
+            three.length,
+            list.start,
+            list.length,
+            self.value,
+        )
+    }
+
+    /// Calls a function of start bytes, which reads two areas and fills one.
+    ///
+    /// Safety: as above.
+    unsafe fn of_a_start(&self, function: OfStart) -> u8 {
+        let [one, two, _] = self.read;
+        let [list, _] = self.filled;
+        function(
             one.start,
             one.length,
             two.start,
             two.length,
             list.start,
             list.length,
-            value,
+            self.value,
         )
     }
 }
+
+/// The slip writer or the listing.
+type OfRun = unsafe extern "C" fn(
+    *const u8,
+    usize,
+    *const u8,
+    usize,
+    *const u8,
+    usize,
+    *mut u8,
+    usize,
+    *mut usize,
+) -> u8;
+
+/// The writer or the reader of start bytes.
+type OfStart =
+    unsafe extern "C" fn(*const u8, usize, *const u8, usize, *mut u8, usize, *mut usize) -> u8;
 
 /// What the check told as an answer. A number that stands for no answer of the check becomes a
 /// refusal with that number, which is right on no input.
@@ -303,7 +331,7 @@ fn answer(told: Told) -> Answer {
 }
 
 /// Calls a function on slices.
-fn on_slices(function: Function, read: [&[u8]; 2], filled: [Area; 2]) -> Told {
+fn on_slices(function: Function, read: [&[u8]; 3], filled: [Area; 2]) -> Told {
     let mut value = NO_VALUE;
     let call = Call {
         function,
@@ -316,308 +344,31 @@ fn on_slices(function: Function, read: [&[u8]; 2], filled: [Area; 2]) -> Told {
 }
 
 /// The first program's whole check on slices.
-pub fn check(program: &[u8], record: &[u8], order: &mut [u8], cells: &mut [u8]) -> Answer {
+pub fn check(
+    program: &[u8],
+    start: &[u8],
+    record: &[u8],
+    order: &mut [u8],
+    cells: &mut [u8],
+) -> Answer {
     let filled = [Area::filled(order), Area::filled(cells)];
-    answer(on_slices(Function::Check, [program, record], filled))
+    answer(on_slices(Function::Check, [program, start, record], filled))
 }
 
-/// The first program's slip writer on slices.
-pub fn write_slip(program: &[u8], record: &[u8], slip: &mut [u8]) -> Told {
-    let filled = [Area::filled(slip), Area::NONE];
-    on_slices(Function::WriteSlip, [program, record], filled)
+/// A function that fills one slice.
+fn filling<E>(function: Function, read: [&[u8]; 3], memory: &mut [E]) -> Told {
+    on_slices(function, read, [Area::filled(memory), Area::NONE])
 }
 
-/// The first program's slip reader on slices.
-pub fn read_slip(ranks: usize, slip: &[u8], counts: &mut [u16]) -> Told {
-    let filled = [Area::filled(counts), Area::NONE];
-    on_slices(Function::read_slip(ranks), [slip, &[]], filled)
-}
-
-/// The first program's listing on slices.
-pub fn list(program: &[u8], record: &[u8], text: &mut [u8]) -> Told {
-    let filled = [Area::filled(text), Area::NONE];
-    on_slices(Function::List, [program, record], filled)
-}
-
-/// Memory between two stretches without access; what is lent lies at its end.
-struct Region {
-    /// The first byte.
-    start: *mut u8,
-    /// The bytes, a multiple of `STEP`.
-    length: usize,
-    /// Whether the next empty area is lent as null.
-    null_next: bool,
-}
-
-impl Region {
-    /// A region of at least so many bytes.
-    fn new(at_least: usize) -> Region {
-        let length = at_least.next_multiple_of(STEP);
-        // A fresh mapping, of which nobody knows yet.
-        let before = unsafe {
-            let kind = PRIVATE_ANONYMOUS;
-            mmap(ptr::null_mut(), length + 2 * STEP, NO_ACCESS, kind, -1, 0)
-        };
-        if before.addr() == usize::MAX {
-            panic!("no memory can be mapped: {}", Error::last_os_error());
-        }
-        let region = Region {
-            start: before.wrapping_add(STEP),
-            length,
-            null_next: false,
-        };
-        region.protect(READ_AND_WRITE);
-        region
-    }
-
-    /// Changes what may be done with the region's bytes.
-    fn protect(&self, access: i32) {
-        // The mapping is the region's own, and `&self` shows that no slice of it is alive.
-        if unsafe { mprotect(self.start, self.length, access) } != 0 {
-            panic!("memory cannot be protected: {}", Error::last_os_error());
-        }
-    }
-
-    /// The region's last bytes, so many of them; a region too small is replaced before.
-    fn end(&mut self, length: usize) -> &mut [u8] {
-        if length > self.length {
-            *self = Region::new(length);
-        }
-        // The bytes lie in the region, which may be read and written but during a call.
-        unsafe { slice::from_raw_parts_mut(self.start.add(self.length - length), length) }
-    }
-
-    /// Lends the region's last bytes, so many of them; of none, every other time as null.
-    fn lend(&mut self, length: usize) -> Area {
-        let mut start = self.end(length).as_mut_ptr();
-        if length == 0 {
-            if self.null_next {
-                start = ptr::null_mut();
-            }
-            self.null_next = !self.null_next;
-        }
-        Area { start, length }
-    }
-}
-
-impl Drop for Region {
-    fn drop(&mut self) {
-        // The whole mapping, stretches without access included; nothing of it is lent any more.
-        unsafe { munmap(self.start.wrapping_sub(STEP), self.length + 2 * STEP) };
-    }
-}
-
-/// A list that a function fills, without the guard after it, which is out of reach.
-struct Reached<'a> {
-    /// The guard before the list, and the list.
-    bytes: &'a mut [u8],
-    /// The bytes of the list alone.
-    length: usize,
-}
-
-impl Reached<'_> {
-    /// What stands for a list that a function does not have.
-    fn none() -> Reached<'static> {
-        Reached {
-            bytes: &mut [],
-            length: 0,
-        }
-    }
-
-    /// What is there of a list of bytes in its guards.
-    fn of(list: &mut [u8]) -> Reached<'_> {
-        let end = list.len() - GUARD;
-        Reached {
-            bytes: &mut list[..end],
-            length: end - GUARD,
-        }
-    }
-}
-
-/// The regions that lent areas lie in. Each function is lent some of its own, so that each area of
-/// each function is lent as null every other time that it is empty.
-pub struct Pages {
-    /// Those of the areas that are only read.
-    read: [Region; 2],
-    /// Those of the areas that are filled.
-    filled: [Region; 2],
-    /// The one of `value`.
-    value: Region,
-}
-
-impl Pages {
-    /// Regions for calls to come, and the handler that reports an access outside them.
-    pub fn new() -> Pages {
-        let action = Action {
-            handler: report,
-            held_back: [0; 16],
-            flags: TOLD_ASIDE_ONCE,
-            restorer: 0,
-        };
-        // The handler only reads the call under way, writes, and ends the process.
-        if unsafe { sigaction(FAULT, &action, ptr::null_mut()) } != 0 {
-            panic!("no handler can be set: {}", Error::last_os_error());
-        }
-        Pages {
-            read: [Region::new(STEP), Region::new(STEP)],
-            filled: [Region::new(STEP), Region::new(STEP)],
-            value: Region::new(STEP),
-        }
-    }
-
-    /// Lends all areas at the ends of pages, calls the function, and copies back what it filled,
-    /// with the guards before it.
-    fn call(&mut self, function: Function, read: [&[u8]; 2], filled: [Reached; 2]) -> Told {
-        let [one, two] = &mut self.read;
-        let [list, cells] = &mut self.filled;
-        for (region, bytes) in [
-            (&mut *one, read[0]),
-            (&mut *two, read[1]),
-            (&mut *list, &*filled[0].bytes),
-            (&mut *cells, &*filled[1].bytes),
-            (&mut self.value, &NO_VALUE.to_ne_bytes()),
-        ] {
-            region.end(bytes.len()).copy_from_slice(bytes);
-        }
-        let call = Call {
-            function,
-            read: [one.lend(read[0].len()), two.lend(read[1].len())],
-            filled: [list.lend(filled[0].length), cells.lend(filled[1].length)],
-            value: self.value.lend(size_of::<usize>()).start.cast(),
-        };
-        self.read.iter().for_each(|region| region.protect(READ));
-        // Each area lies at the end of a region of its own; `value` and a list of counts are
-        // aligned as that end is, since their lengths are whole entries.
-        let told = unsafe { call.told() };
-        self.read
-            .iter()
-            .for_each(|region| region.protect(READ_AND_WRITE));
-        for (region, Reached { bytes, .. }) in self.filled.iter_mut().zip(filled) {
-            bytes.copy_from_slice(region.end(bytes.len()));
-        }
-        told
-    }
-
-    /// Has the first program check an input, and notes what it does.
-    pub fn check(&mut self, input: &Input) -> Observed {
-        let mut order = lent(input.order_bytes);
-        let mut cells = lent(input.cell_bytes);
-        let read = [&input.program[..], &input.record];
-        let filled = [Reached::of(&mut order), Reached::of(&mut cells)];
-        let answer = answer(self.call(Function::Check, read, filled));
-        Observed {
-            answer,
-            order,
-            cells,
-        }
-    }
-
-    /// Has a function fill one list of so many bytes, and notes what it does.
-    fn fill(&mut self, function: Function, read: [&[u8]; 2], bytes: usize) -> Seen<u8> {
-        let mut memory = lent(bytes);
-        let filled = [Reached::of(&mut memory), Reached::none()];
-        let told = self.call(function, read, filled);
-        Seen { told, memory }
-    }
-
-    /// Has the first program write a slip, and notes what it does.
-    pub fn write_slip(&mut self, program: &[u8], record: &[u8], bytes: usize) -> Seen<u8> {
-        self.fill(Function::WriteSlip, [program, record], bytes)
-    }
-
-    /// Has the first program write a listing, and notes what it does.
-    pub fn list(&mut self, program: &[u8], record: &[u8], bytes: usize) -> Seen<u8> {
-        self.fill(Function::List, [program, record], bytes)
-    }
-
-    /// Has the first program read a slip, and notes what it does.
-    pub fn read_slip(&mut self, ranks: usize, slip: &[u8], entries: usize) -> Seen<u16> {
-        let mut memory = lent::<u16>(entries);
-        let reached = &mut memory[..GUARD + entries];
-        let mut bytes: Vec<u8> = reached
-            .iter()
-            .flat_map(|entry| entry.to_ne_bytes())
-            .collect();
-        let counts = Reached {
-            bytes: &mut bytes,
-            length: entries * size_of::<u16>(),
-        };
-        let filled = [counts, Reached::none()];
-        let told = self.call(Function::read_slip(ranks), [slip, &[]], filled);
-        for (entry, bytes) in reached.iter_mut().zip(bytes.chunks_exact(2)) {
-            *entry = u16::from_ne_bytes([bytes[0], bytes[1]]);
-        }
-        Seen { told, memory }
-    }
-}
-
-/// Standard output without a buffer, for the handler, which must not ask for memory.
-struct Unbuffered;
-
-impl Write for Unbuffered {
-    fn write_str(&mut self, text: &str) -> fmt::Result {
-        // The text's own bytes; if they cannot be written there is nobody to tell.
-        unsafe { write(1, text.as_ptr(), text.len()) };
-        Ok(())
-    }
-}
-
-/// Reports a caught access of the call under way, and ends with status 1. Outside a call it
-/// returns, and since it was taken away when it began, the same access ends the process.
-extern "C" fn report(_signal: i32, signalled: *const Signalled, _context: *mut c_void) {
-    let call = UNDER_WAY.load(SeqCst);
-    if call.is_null() {
-        return;
-    }
-    // The call is under way, so it and what is lent to it are there; `signalled` comes from the
-    // system.
-    unsafe {
-        let _ = write_report(&*call, (*signalled).address);
-        _exit(1);
-    }
-}
-
-/// Writes which access was caught, in or near which area, and the input.
-///
-/// Safety: the areas that are only read may be read.
-unsafe fn write_report(call: &Call, address: usize) -> fmt::Result {
-    let out = &mut Unbuffered;
-    let function = call.function.name();
-    writeln!(out, "{function} touched what it may not, at {address:#x}")?;
-    let value = Area {
-        start: call.value.cast(),
-        length: size_of::<usize>(),
-    };
-    let read = call.function.read_names().into_iter().zip(call.read);
-    let filled = call.function.filled_names().into_iter().zip(call.filled);
-    let (read, filled) = (named(read), named(filled));
-    let areas = read.clone().chain(filled.clone());
-    for (name, Area { start, length }) in areas.chain([("value", value)]) {
-        let at = address.wrapping_sub(start.addr()) as isize;
-        if at.unsigned_abs() < length + STEP {
-            writeln!(out, "that is byte {at} of the {name}, which has {length}")?;
-        }
-    }
-    if let Function::ReadSlip(ranks) = call.function {
-        writeln!(out, "ranks {ranks}")?;
-    }
-    for (name, Area { start, length }) in read {
-        let none = if length == 0 { "-" } else { "" };
-        write!(out, "{name} {none}")?;
-        for at in 0..length {
-            write!(out, "{:02x}", start.add(at).read())?;
-        }
-        writeln!(out)?;
-    }
-    for (name, area) in filled {
-        writeln!(out, "{name}: {} bytes lent", area.length)?;
-    }
-    Ok(())
-}
-
-/// The areas that a function has.
-fn named(
-    areas: impl Iterator<Item = (&'static str, Area)> + Clone,
-) -> impl Iterator<Item = (&'static str, Area)> + Clone {
-    areas.filter(|(name, _)| !name.is_empty())
-}
+/// The first program's functions beside the check on slices.
+pub const FUNCTIONS: Functions<'static> = Functions {
+    write_slip: &|program, start, record, slip| {
+        filling(Function::WriteSlip, [program, start, record], slip)
+    },
+    read_slip: &|ranks, slip, counts| filling(Function::read_slip(ranks), [slip, &[], &[]], counts),
+    list: &|program, start, record, text| filling(Function::List, [program, start, record], text),
+    write_start: &|program, cells, start| {
+        filling(Function::WriteStart, [program, cells, &[]], start)
+    },
+    read_start: &|program, start, cells| filling(Function::ReadStart, [program, start, &[]], cells),
+};

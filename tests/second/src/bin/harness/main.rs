@@ -24,7 +24,7 @@ const USAGE: &str = "usage:
   harness write-forms FILE        write the papers' table of verdicts on map and kind
   harness write-corpus DIR SEED   make the corpus files (all but the hand-written ones)
   harness show FILE [NAME]        print answer and listing of the cases of a corpus file
-  harness listing DIR             print the listing of DIR/run.prg and DIR/run.rec";
+  harness listing DIR             print the listing of DIR/run.prg, DIR/run.sta and DIR/run.rec";
 
 /// How a command ends when it does not succeed.
 #[derive(Debug)]

@@ -15,7 +15,7 @@ pub struct Tested {
     pub name: &'static str,
     /// Lends it lists, calls its check on an input, and notes what it does.
     pub observe: Box<dyn Fn(&Input) -> Observed>,
-    /// Its slip writer, slip reader and listing.
+    /// Its functions beside the check.
     pub extras: Extras<'static>,
 }
 
@@ -25,18 +25,26 @@ impl Tested {
     pub fn usual() -> Tested {
         let pages = || std::cell::RefCell::new(first::Pages::new());
         let (check, write_slip, read_slip, list) = (pages(), pages(), pages(), pages());
+        let (write_start, read_start) = (pages(), pages());
         Tested {
             name: "the first program, lent the ends of pages",
             observe: Box::new(move |input| check.borrow_mut().check(input)),
             extras: Extras {
-                write_slip: Box::new(move |program, record, bytes| {
-                    write_slip.borrow_mut().write_slip(program, record, bytes)
+                write_slip: Box::new(move |program, start, record, bytes| {
+                    let inputs = [program, start, record];
+                    write_slip.borrow_mut().write_slip(inputs, bytes)
                 }),
                 read_slip: Box::new(move |ranks, slip, entries| {
                     read_slip.borrow_mut().read_slip(ranks, slip, entries)
                 }),
-                list: Box::new(move |program, record, bytes| {
-                    list.borrow_mut().list(program, record, bytes)
+                list: Box::new(move |program, start, record, bytes| {
+                    list.borrow_mut().list([program, start, record], bytes)
+                }),
+                write_start: Box::new(move |program, cells, bytes| {
+                    write_start.borrow_mut().write_start(program, cells, bytes)
+                }),
+                read_start: Box::new(move |program, start, bytes| {
+                    read_start.borrow_mut().read_start(program, start, bytes)
                 }),
             },
         }
@@ -48,7 +56,7 @@ impl Tested {
         Tested::lent_slices(
             "the first program, lent lists in guard bytes",
             &first::check,
-            Extras::between_guards(&first::write_slip, &first::read_slip, &first::list),
+            Extras::between_guards(first::FUNCTIONS),
         )
     }
 

@@ -12,13 +12,13 @@ mod waiting;
 use super::chosen::{renewed_cases, Source};
 use super::parts::{command, naming, popa, popb, read, store, write};
 use super::row::{cells_with, own_order, Row};
-use super::{judge_accepted, Named};
+use super::{cases_by_hand, Named};
 use crate::corpus::Expected;
-use crate::generator::neighbours::{dated_small_run, small_run};
+use crate::generator::edition::Edition;
+use crate::generator::neighbours::small_run;
 use crate::generator::rng::Rng;
 use crate::generator::widen::Run;
-use crate::generator::Maker;
-use crate::machine::{Machine, Start};
+use crate::machine::Machine;
 use crate::program::{Kind, Program, Transition};
 use crate::record::{record_bytes, Item};
 
@@ -209,29 +209,19 @@ fn rows() -> Vec<Row> {
 }
 
 /// A small random run with a short record, in which a transfer overtakes another.
-fn overtaking_run(rng: &mut Rng) -> Run {
-    overtaking(rng, small_run)
-}
-
-/// The same as before #102.
-fn dated_overtaking_run(rng: &mut Rng) -> Run {
-    overtaking(rng, dated_small_run)
-}
-
-/// The first run made so that has a short record and in which a transfer overtakes another.
-fn overtaking(rng: &mut Rng, maker: Maker) -> Run {
+fn overtaking_run(rng: &mut Rng, edition: Edition) -> Run {
     loop {
-        let (program, items) = maker(rng);
-        let short = record_bytes(&items).len() <= JUDGED_BYTES;
-        if short && overtakes(&program, &items) {
-            return (program, items);
+        let run = small_run(rng, edition);
+        let short = record_bytes(&run.2).len() <= JUDGED_BYTES;
+        if short && overtakes(&run) {
+            return run;
         }
     }
 }
 
 /// Whether a pop of an accepted record takes an entry other than the oldest of all.
-fn overtakes(program: &Program, items: &[Item]) -> bool {
-    let mut machine = Machine::new(program, &Start::zero(program));
+fn overtakes((program, start, items): &Run) -> bool {
+    let mut machine = Machine::new(program, start);
     items.iter().any(|item| {
         let oldest = machine.remotes_waiting(item.act).first().copied();
         let named = item.act.pop().and_then(|pop| pop.remote);
@@ -243,22 +233,15 @@ fn overtakes(program: &Program, items: &[Item]) -> bool {
 /// The file of #108; a row that the second program answers otherwise is a fault, and so is an
 /// order or ring that the searches do not confirm.
 pub fn file(seed: u64) -> Result<Named, String> {
-    let mut cases = Vec::new();
-    for row in rows() {
-        judge_accepted(&row.program, &row.record)?;
-        cases.push(row.case()?);
-    }
+    let mut cases = cases_by_hand(rows())?;
     let dated = Source {
         family: "neighbours-judged",
-        maker: dated_overtaking_run,
+        maker: overtaking_run,
+        edition: Edition::Before102,
         seed,
         per_kind: JUDGED_PER_KIND,
     };
-    cases.extend(renewed_cases(
-        &dated,
-        "neighbours-judged-later",
-        overtaking_run,
-    )?);
+    cases.extend(renewed_cases(&dated, "neighbours-judged-later")?);
     let head = "# Order only towards one neighbour, #108 of document 02; answers worked out by \
         hand, and after\n# them small runs confirmed by the exhaustive judge.\n";
     Ok(Named::new("neighbours.txt", head, &cases))

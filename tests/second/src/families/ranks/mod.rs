@@ -12,8 +12,9 @@ mod slip_writer;
 
 use super::chosen::{renewed_cases, Source};
 use super::row::{own_order, Row};
-use super::{judge_accepted, Named};
+use super::{cases_by_hand, Named};
 use crate::corpus::Expected;
+use crate::generator::edition::Edition;
 use crate::generator::many_ranks;
 use crate::program::{Program, Transition};
 use crate::record::{record_bytes, Item};
@@ -88,23 +89,16 @@ fn rows() -> Vec<Row> {
 /// The file of #105; a row that the second program answers otherwise is a fault, and so is an
 /// order or ring that the searches do not confirm.
 pub fn file(seed: u64) -> Result<Named, String> {
-    let mut cases = Vec::new();
-    for row in rows() {
-        judge_accepted(&row.program, &row.record)?;
-        cases.push(row.case()?);
-    }
+    let mut cases = cases_by_hand(rows())?;
     cases.extend(slip_reader::cases()?);
     let dated = Source {
         family: "ranks-judged",
-        maker: many_ranks::dated_small_run,
+        maker: many_ranks::small_run,
+        edition: Edition::Before102,
         seed,
         per_kind: JUDGED_PER_KIND,
     };
-    cases.extend(renewed_cases(
-        &dated,
-        "ranks-judged-later",
-        many_ranks::small_run,
-    )?);
+    cases.extend(renewed_cases(&dated, "ranks-judged-later")?);
     let head =
         "# Sixteen ranks, #105 of document 02; answers worked out by hand, and after them small \
         runs\n# confirmed by the exhaustive judge.\n";

@@ -12,13 +12,14 @@ mod values;
 
 use super::chosen::{judged_cases, Source};
 use super::row::{cells_with, own_order, Row};
-use super::{judge_accepted, Named};
+use super::{cases_by_hand, Named};
 use crate::corpus::Expected;
 use crate::expression::{Environment, Expression, Operator};
+use crate::generator::edition::Edition;
 use crate::generator::rng::Rng;
 use crate::generator::small_run;
 use crate::generator::widen::Run;
-use crate::machine::{Machine, Start};
+use crate::machine::Machine;
 use crate::program::Program;
 use crate::record::{record_bytes, Item};
 
@@ -75,21 +76,21 @@ fn rows() -> Vec<Row> {
 }
 
 /// A small random run, with a short program and record, that takes an expression at an edge.
-fn edged_run(rng: &mut Rng) -> Run {
+fn edged_run(rng: &mut Rng, edition: Edition) -> Run {
     loop {
-        let (program, items) = small_run(rng);
-        let lengths = [program.to_bytes().len(), record_bytes(&items).len()];
+        let run = small_run(rng, edition);
+        let lengths = [run.0.to_bytes().len(), record_bytes(&run.2).len()];
         let short = lengths.iter().all(|&length| length <= JUDGED_BYTES);
-        if short && takes_edge(&program, &items) {
-            return (program, items);
+        if short && takes_edge(&run) {
+            return run;
         }
     }
 }
 
 /// Whether an item of an accepted record takes an expression that holds a sum or product of 65,535
 /// or a difference of 0.
-fn takes_edge(program: &Program, items: &[Item]) -> bool {
-    let mut machine = Machine::new(program, &Start::zero(program));
+fn takes_edge((program, start, items): &Run) -> bool {
+    let mut machine = Machine::new(program, start);
     items.iter().any(|item| {
         let rank = item.act.rank();
         let environment = Environment {
@@ -124,14 +125,11 @@ fn holds_edge(expression: &Expression, environment: &Environment) -> bool {
 /// The file of #102; a row that the second program answers otherwise is a fault, and so is an
 /// order or ring that the searches do not confirm.
 pub fn file(seed: u64) -> Result<Named, String> {
-    let mut cases = Vec::new();
-    for row in rows() {
-        judge_accepted(&row.program, &row.record)?;
-        cases.push(row.case()?);
-    }
+    let mut cases = cases_by_hand(rows())?;
     cases.extend(judged_cases(&Source {
         family: "sums-judged",
         maker: edged_run,
+        edition: Edition::Before103,
         seed,
         per_kind: JUDGED_PER_KIND,
     })?);

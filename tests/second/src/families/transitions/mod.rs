@@ -10,7 +10,7 @@ mod replay;
 mod runs;
 
 use super::row::{own_order, Row};
-use super::{judge_accepted, Named};
+use super::{cases_by_hand, Named};
 use crate::corpus::Expected;
 use crate::program::Program;
 use crate::record::{record_bytes, Item};
@@ -56,11 +56,7 @@ fn rows() -> Vec<Row> {
 /// The file of #107; a row that the second program answers otherwise is a fault, and so is an
 /// order or ring that the searches do not confirm.
 pub fn file() -> Result<Named, String> {
-    let mut cases = Vec::new();
-    for row in rows() {
-        judge_accepted(&row.program, &row.record)?;
-        cases.push(row.case()?);
-    }
+    let cases = cases_by_hand(rows())?;
     let head =
         "# More than 128 transitions, #107 of document 02; all answers worked out by hand.\n";
     Ok(Named::new("transitions.txt", head, &cases))
