@@ -1,7 +1,7 @@
 /*
  * Lellmusu checks a recorded run of a one-sided program: whether it equals a run that does one
- * transfer at a time. docs/FORMATS.md has the bytes of programs, records and slips and the text of
- * a listing, docs/RECORDER.md how to link and call the library.
+ * transfer at a time. docs/FORMATS.md has the bytes of programs, starts, records and slips and the
+ * text of a listing, docs/RECORDER.md how to link and call the library.
  *
  * Of every function: what is lent is lent for the length of the call. Nothing is kept after it,
  * nothing is allocated, and there is no global state, so threads may call at the same time, each
@@ -56,19 +56,23 @@ enum {
     LELLMUSU_QUEUES_LEFT = 13,
     /* Entries needed: order list shorter than the group count (also when a ring would fit). */
     LELLMUSU_ORDER_TOO_SHORT = 14,
-    /* Entries or bytes needed: cell list, slip, counts or listing memory too short. */
+    /* Entries or bytes needed: cell list, slip, start, counts or listing memory too short. */
     LELLMUSU_MEMORY_TOO_SHORT = 15,
     /* Byte: slip not as document 01 says. Only lellmusu_read_slip returns this. */
     LELLMUSU_SLIP_FORM = 16,
     /* Item: an expression of its transition has no value, since a sum or product passes 65,535 or a
      * difference falls below 0. Told after 7 and before 8 and 9. */
     LELLMUSU_NO_VALUE = 18,
+    /* Byte: start not as document 02 says: a missing or left-over byte (a missing one placed at the
+     * length), a bit for a cell A or above, or a listed 0. Judged after the program and before the
+     * record. */
+    LELLMUSU_START_FORM = 19,
     /* Groups: no run that does one transfer at a time has this run's trace. */
     LELLMUSU_RING = 255
 };
 
-/* Lengths in bytes that are enough for every program and record: an entry for each of 1,024 items,
- * and one for each of the 64 cells of 16 ranks. */
+/* Lengths in bytes that are enough for every run: an entry for each of 1,024 items, and one for
+ * each of the 64 cells of 16 ranks. */
 #define LELLMUSU_ORDER_BYTES (2 * 1024)
 #define LELLMUSU_CELLS_BYTES (2 * 16 * 64)
 
@@ -78,10 +82,15 @@ enum {
 #define LELLMUSU_COUNTS 16
 #define LELLMUSU_LISTING_BYTES 44043
 
+/* Likewise for a start: for each of 16 ranks a map of eight bytes and a value for each of its 64
+ * cells. */
+#define LELLMUSU_START_BYTES (16 * (8 + 2 * 64))
+
 /*
- * Checks the record of a run of the program.
+ * Checks the record of a run of the program that began with the cells that the start says.
  *
  *   program  the program's bytes; they may be any bytes, and are only read
+ *   start    the start's bytes; likewise. No bytes at all mean that all cells are 0 at the start
  *   record   the record's bytes; likewise
  *   order    gets the group numbers of the order or ring, from its first byte on
  *   cells    gets the last value of every cell, N x A entries: rank 1's cells first, each rank's
@@ -92,24 +101,25 @@ enum {
  * as bytes, rounded down: an odd last byte is never used. Bytes beyond the entries filled stay as
  * they were. On a refusal both lists stay as they were, and only *value changes.
  */
-uint8_t lellmusu_check(const uint8_t *program, size_t program_length, const uint8_t *record,
-                       size_t record_length, uint8_t *order, size_t order_length, uint8_t *cells,
-                       size_t cells_length, size_t *value);
+uint8_t lellmusu_check(const uint8_t *program, size_t program_length, const uint8_t *start,
+                       size_t start_length, const uint8_t *record, size_t record_length,
+                       uint8_t *order, size_t order_length, uint8_t *cells, size_t cells_length,
+                       size_t *value);
 
 /*
  * Writes the slip of a run: a map of the ranks that have a command item, in two bytes for a program
  * of more than 8 ranks and in one for others, then for each of them a two-byte count of those
- * items. Program and record are refused as lellmusu_check refuses them, by 1 to 13 or 18; then a
- * memory that is too short, by 15 with the bytes needed.
+ * items. Program, start and record are refused as lellmusu_check refuses them, by 1 to 13, 18 or
+ * 19; then a memory that is too short, by 15 with the bytes needed.
  *
  *   slip     gets the slip's bytes, from its first byte on
  *   value    gets the count of bytes written or, of a refusal, its place
  *
  * Returns 0 (LELLMUSU_ORDER) where the slip is written, whether the run is an order or a ring.
  */
-uint8_t lellmusu_write_slip(const uint8_t *program, size_t program_length, const uint8_t *record,
-                            size_t record_length, uint8_t *slip, size_t slip_length,
-                            size_t *value);
+uint8_t lellmusu_write_slip(const uint8_t *program, size_t program_length, const uint8_t *start,
+                            size_t start_length, const uint8_t *record, size_t record_length,
+                            uint8_t *slip, size_t slip_length, size_t *value);
 
 /*
  * Reads a slip of a program with so many ranks. What is no slip of such a program is refused by 16;
@@ -138,8 +148,43 @@ uint8_t lellmusu_read_slip(uint8_t ranks, const uint8_t *slip, size_t slip_lengt
  * number of a refusal, whose place stands in the line that is written. Where the text does not fit
  * nothing is written, and 15 is returned.
  */
-uint8_t lellmusu_list(const uint8_t *program, size_t program_length, const uint8_t *record,
-                      size_t record_length, uint8_t *text, size_t text_length, size_t *value);
+uint8_t lellmusu_list(const uint8_t *program, size_t program_length, const uint8_t *start,
+                      size_t start_length, const uint8_t *record, size_t record_length,
+                      uint8_t *text, size_t text_length, size_t *value);
+
+/*
+ * Writes the start of a run that begins with these cells: for each rank an eight-byte map of its
+ * cells that are not 0, high byte first, cell 0 the lowest bit, then a two-byte value for each of
+ * them, cells rising. The maps are always written, also where all cells are 0. The program is
+ * refused as lellmusu_check refuses it, by 1 to 3; then a list that has too few entries, by 15 with
+ * the entries needed, N x A; then a memory that is too short, by 15 with the bytes needed.
+ *
+ *   cells    the value of every cell, a list as lellmusu_check fills it; it is only read, and
+ *            entries beyond N x A and an odd last byte are not looked at
+ *   start    gets the start's bytes, from its first byte on
+ *   value    gets the count of bytes written or, of a refusal, its place
+ *
+ * Returns 0 (LELLMUSU_ORDER) where the start is written.
+ */
+uint8_t lellmusu_write_start(const uint8_t *program, size_t program_length, const uint8_t *cells,
+                             size_t cells_length, uint8_t *start, size_t start_length,
+                             size_t *value);
+
+/*
+ * Reads a start of the program. The program is refused as lellmusu_check refuses it, by 1 to 3;
+ * then what is no start of it, by 19; then a list that has too few entries, by 15 with the entries
+ * needed, N x A.
+ *
+ *   start    the start's bytes; they may be any bytes, and are only read. No bytes at all are read
+ *            as 0 in every cell
+ *   cells    gets the value of every cell at the start, a list as lellmusu_check fills it
+ *   value    gets the count of entries filled, N x A, or, of a refusal, its place
+ *
+ * Returns 0 (LELLMUSU_ORDER) where the list is filled.
+ */
+uint8_t lellmusu_read_start(const uint8_t *program, size_t program_length, const uint8_t *start,
+                            size_t start_length, uint8_t *cells, size_t cells_length,
+                            size_t *value);
 
 #ifdef __cplusplus
 }

@@ -1,4 +1,5 @@
-/* Runs the neighbour program on threads, records the run, and asks the library what it was. */
+/* Runs the neighbour program on threads from the gauges' readings, records the run, and asks the
+ * library what it was. */
 
 #include <stdbool.h>
 #include <stddef.h>
@@ -8,7 +9,9 @@
 #include <string.h>
 
 #include "lellmusu.h"
+#include "lists.h"
 #include "neighbour.h"
+#include "readings.h"
 #include "record.h"
 #include "run.h"
 
@@ -18,7 +21,7 @@ enum { EXIT_ORDER = 0, EXIT_RING = 1, EXIT_REFUSED = 2, EXIT_UNABLE = 3 };
 /* What the command line asks for. */
 struct options {
     struct settings settings;
-    /* The folder that the two files go into, or null. */
+    /* The folder that the files go into, or null. */
     const char *folder;
 };
 
@@ -76,7 +79,7 @@ static void print_usage(void)
             "  RANKS     2 to 16\n"
             "  --delay   transfers land late\n"
             "  --rounds  how often each rank goes through the program, 1 to %d / RANKS\n"
-            "  --save    writes run.prg and run.rec into this folder\n",
+            "  --save    writes run.prg, run.sta and run.rec into this folder\n",
             MOST_ITEMS / ITEMS_A_ROUND);
 }
 
@@ -97,72 +100,79 @@ static bool save(const char *folder, const char *name, const uint8_t *bytes, siz
     return saved;
 }
 
-/* Writes the two files that the listing program reads. */
-static bool save_run(const char *folder, const uint8_t *program, const struct record *record)
+/* Writes the files that the listing program reads. */
+static bool save_run(const char *folder, const uint8_t *program, const struct start *start,
+                     const struct record *record)
 {
     return save(folder, "run.prg", program, PROGRAM_BYTES) &&
+           save(folder, "run.sta", start->bytes, start->length) &&
            save(folder, "run.rec", record->bytes, record->length);
 }
 
-/* An entry of one of the library's lists: two bytes, the high one first. */
-static unsigned entry(const uint8_t *list, size_t index)
-{
-    return (unsigned)list[2 * index] << 8 | list[2 * index + 1];
-}
-
-/* Prints the groups of an order or ring, and each cell that is not 0 at the end. */
-static void print_lists(const uint8_t *order, size_t groups, const uint8_t *cells, unsigned ranks)
+/* Prints the groups of an order or ring. */
+static void print_groups(const uint8_t *order, size_t groups)
 {
     for (size_t i = 0; i < groups; i++) {
-        printf("group %u\n", entry(order, i));
+        printf("group %u\n", (unsigned)entry(order, i));
     }
-    for (unsigned i = 0; i < ranks * CELLS; i++) {
-        if (entry(cells, i) != 0) {
-            printf("cell %u %u %u\n", i / CELLS + 1, i % CELLS, entry(cells, i));
+}
+
+/* Prints each cell that is not 0 at the end. */
+static void print_cells(unsigned ranks, const uint8_t *cells)
+{
+    for (size_t i = 0; i < ranks * CELLS; i++) {
+        const struct place place = cell_of(i);
+        const unsigned value = entry(cells, i);
+        if (value != 0) {
+            printf("cell %u %u %u\n", (unsigned)place.rank, (unsigned)place.cell, value);
         }
     }
 }
 
 /* Asks the library about a run, prints its answer, and gives the exit status for it. */
-static int print_answer(const uint8_t *program, const struct record *record)
+static int print_answer(const uint8_t *program, const struct start *start,
+                        const struct record *record)
 {
     uint8_t order[LELLMUSU_ORDER_BYTES];
     uint8_t cells[LELLMUSU_CELLS_BYTES];
     size_t value;
     const uint8_t answer =
-        lellmusu_check(program, PROGRAM_BYTES, record->bytes, record->length, order, sizeof order,
-                       cells, sizeof cells, &value);
-    switch (answer) {
-    case LELLMUSU_ORDER:
-        printf("order %zu\n", value);
-        print_lists(order, value, cells, program[0]);
-        return EXIT_ORDER;
-    case LELLMUSU_RING:
-        printf("ring %zu\n", value);
-        print_lists(order, value, cells, program[0]);
-        return EXIT_RING;
-    default:
+        lellmusu_check(program, PROGRAM_BYTES, start->bytes, start->length, record->bytes,
+                       record->length, order, sizeof order, cells, sizeof cells, &value);
+    if (answer != LELLMUSU_ORDER && answer != LELLMUSU_RING) {
         printf("refused %u %zu\n", (unsigned)answer, value);
         return EXIT_REFUSED;
     }
+    printf("%s %zu\n", answer == LELLMUSU_ORDER ? "order" : "ring", value);
+    print_groups(order, value);
+    print_cells(program[0], cells);
+    print_readings(program[0], cells);
+    return answer == LELLMUSU_ORDER ? EXIT_ORDER : EXIT_RING;
 }
 
 int main(int count, char *words[])
 {
     struct options options;
+    struct start start;
     struct record record;
     uint8_t program[PROGRAM_BYTES];
+    uint8_t cells[LELLMUSU_CELLS_BYTES];
     if (!read_options(count, words, &options)) {
         print_usage();
         return EXIT_UNABLE;
     }
     neighbour_program(options.settings.ranks, program);
-    if (!run_program(&options.settings, &record)) {
+    take_readings(options.settings.ranks, cells);
+    if (!write_start(program, cells, &start)) {
+        fprintf(stderr, "recorder: the readings are refused\n");
+        return EXIT_REFUSED;
+    }
+    if (!run_program(&options.settings, cells, &record)) {
         fprintf(stderr, "recorder: cannot make the threads\n");
         return EXIT_UNABLE;
     }
-    if (options.folder != NULL && !save_run(options.folder, program, &record)) {
+    if (options.folder != NULL && !save_run(options.folder, program, &start, &record)) {
         return EXIT_UNABLE;
     }
-    return print_answer(program, &record);
+    return print_answer(program, &start, &record);
 }

@@ -1,5 +1,6 @@
-/* The neighbour program: each rank stores its number into its own cell, writes that cell to the
- * next rank, meets all others in a barrier, and loads what the rank before it has sent. */
+/* The neighbour program: each rank loads its gauge's reading, stores it into its own cell, writes
+ * that cell to the next rank, meets all others in a barrier, and loads what the rank before it has
+ * sent. */
 #ifndef NEIGHBOUR_H
 #define NEIGHBOUR_H
 
@@ -9,20 +10,21 @@
 /* How many ranks the program may have; a lone one has no neighbour. */
 enum { FEWEST_RANKS = 2, MOST_RANKS = 16 };
 
-/* The cells of each rank: its own number, and the number that it gets. */
-enum { OWN_CELL, RECEIVED_CELL, CELLS };
+/* The cells of each rank: its gauge's reading, which is there before the run begins, its own
+ * height, and the height that it gets. */
+enum { GAUGE_CELL, OWN_CELL, RECEIVED_CELL, CELLS };
 
 /* The one queue of each rank. */
 enum { QUEUE = 0 };
 
 /* The transitions, in the order in which a rank takes them; after the last it may begin again. */
-enum { STORE_OWN, WRITE_NEXT, MEET, LOAD_RECEIVED, TRANSITIONS };
+enum { LOAD_GAUGE, STORE_OWN, WRITE_NEXT, MEET, LOAD_RECEIVED, TRANSITIONS };
 
-/* The items that one round of one rank comes to: its four commands, a popa and a popb. */
+/* The items that one round of one rank comes to: its five commands, a popa and a popb. */
 enum { ITEMS_A_ROUND = TRANSITIONS + 2 };
 
 /* The program's length in bytes. */
-enum { PROGRAM_BYTES = 48 };
+enum { PROGRAM_BYTES = 57 };
 
 /* Writes the program for so many ranks. */
 void neighbour_program(uint8_t ranks, uint8_t bytes[PROGRAM_BYTES]);

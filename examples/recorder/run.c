@@ -11,6 +11,7 @@
 #include <pthread.h>
 #include <time.h>
 
+#include "lists.h"
 #include "neighbour.h"
 
 /* The most rounds of any number of ranks. */
@@ -36,7 +37,7 @@ struct delivery {
 struct rank {
     uint16_t cells[CELLS];
     /* Its register, where loads go. */
-    uint16_t received;
+    uint16_t loaded;
     /* Its queue: all its requests, how many were issued, and how many of these were fetched. */
     struct request requests[MOST_ROUNDS];
     unsigned issued;
@@ -92,13 +93,33 @@ static uint16_t *cell_at(struct run *run, struct place place)
     return &rank_of(run, place.rank)->cells[place.cell];
 }
 
-/* The store: the rank's number into its own cell. */
+/* Puts the values of a list of cells into memory, before any step. */
+static void put_cells(struct run *run, const uint8_t *cells)
+{
+    for (size_t i = 0; i < run->settings.ranks * (unsigned)CELLS; i++) {
+        *cell_at(run, cell_of(i)) = entry(cells, i);
+    }
+}
+
+/* A load: what is in one of the rank's cells, into its register. */
+static void load(struct run *run, uint8_t rank, uint8_t transition, uint16_t cell)
+{
+    const struct place place = {rank, cell};
+    pthread_mutex_lock(&run->lock);
+    const uint16_t value = *cell_at(run, place);
+    rank_of(run, rank)->loaded = value;
+    record_access(run->record, KIND_LOAD, rank, transition, place, value);
+    pthread_mutex_unlock(&run->lock);
+}
+
+/* The store: what was loaded, into the rank's own cell. */
 static void store_own(struct run *run, uint8_t rank)
 {
     const struct place place = {rank, OWN_CELL};
     pthread_mutex_lock(&run->lock);
-    *cell_at(run, place) = rank;
-    record_access(run->record, KIND_STORE, rank, STORE_OWN, place, rank);
+    const uint16_t value = rank_of(run, rank)->loaded;
+    *cell_at(run, place) = value;
+    record_access(run->record, KIND_STORE, rank, STORE_OWN, place, value);
     pthread_mutex_unlock(&run->lock);
 }
 
@@ -146,17 +167,6 @@ static void meet(struct run *run)
     pthread_mutex_unlock(&run->lock);
 }
 
-/* The load: what has been received so far, into the rank's register. */
-static void load_received(struct run *run, uint8_t rank)
-{
-    const struct place place = {rank, RECEIVED_CELL};
-    pthread_mutex_lock(&run->lock);
-    const uint16_t value = *cell_at(run, place);
-    rank_of(run, rank)->received = value;
-    record_access(run->record, KIND_LOAD, rank, LOAD_RECEIVED, place, value);
-    pthread_mutex_unlock(&run->lock);
-}
-
 /* Tells the rank's carrier that no request will follow. */
 static void finish(struct run *run, uint8_t rank)
 {
@@ -170,11 +180,12 @@ static void finish(struct run *run, uint8_t rank)
 static void compute(struct run *run, uint8_t rank)
 {
     for (unsigned round = 0; round < run->settings.rounds; round++) {
+        load(run, rank, LOAD_GAUGE, GAUGE_CELL);
         store_own(run, rank);
         write_next(run, rank);
         pass_time(BUSY_MICROSECONDS);
         meet(run);
-        load_received(run, rank);
+        load(run, rank, LOAD_RECEIVED, RECEIVED_CELL);
     }
     finish(run, rank);
 }
@@ -262,11 +273,12 @@ static unsigned make_threads(struct run *run, struct worker workers[], pthread_t
     return wanted;
 }
 
-bool run_program(const struct settings *settings, struct record *record)
+bool run_program(const struct settings *settings, const uint8_t *cells, struct record *record)
 {
     struct run run = {.settings = *settings, .record = record};
     struct worker workers[2 * MOST_RANKS];
     pthread_t threads[2 * MOST_RANKS];
+    put_cells(&run, cells);
     record_begin(record);
     /* With default attributes these two do not fail where threads can be made at all. */
     pthread_mutex_init(&run.lock, NULL);

@@ -20,8 +20,8 @@ struct settings {
 /* The most rounds whose record has no more than MOST_ITEMS items. */
 unsigned most_rounds(uint8_t ranks);
 
-/* Runs the program and fills the record. False if its threads could not be made; then no step was
- * taken. */
-bool run_program(const struct settings *settings, struct record *record);
+/* Runs the program from the values in a list of cells, and fills the record. False if its threads
+ * could not be made; then no step was taken. */
+bool run_program(const struct settings *settings, const uint8_t *cells, struct record *record);
 
 #endif
