@@ -50,6 +50,11 @@ abbrev pub Distinct : List ℕ → Type 0
 Distinct [] = Unit {0}
 Distinct (x ∷ l) = (¬ (x ∈ l)) × Distinct l
 
+-- Each number of the list is lower than all behind it.
+abbrev pub Rising : List ℕ → Type 0
+Rising [] = Unit {0}
+Rising (x ∷ l) = ((y : ℕ) → y ∈ l → x < y) × Rising l
+
 -- In a list of distinct numbers each has one place.
 pub one-place : (l : List ℕ) → Distinct l → (i j : ℕ) {g : ℕ} → getElem? l i ≡ some g → getElem? l j ≡ some g → i ≡ j
 one-place [] d i j p q = absurd (Option·none-ne-some _ p)
@@ -127,6 +132,12 @@ without-distinct g (x ∷ l) d =
     (λ t. rw t (d .1))
     (λ t. rw t ((λ m. d .0 (without-within g x l m)), without-distinct g l (d .1)))
 
+pub without-rising : (g : ℕ) (l : List ℕ) → Rising l → Rising (without g l)
+unfolding without
+without-rising g [] r = tt
+without-rising g (x ∷ l) r =
+    decided (eqb x g) (λ t. rw t (r .1)) (λ t. rw t ((λ y m. r .0 y (without-within g y l m)), without-rising g l (r .1)))
+
 -- Of distinct numbers, the one taken out is gone.
 pub without-gone : (g : ℕ) (l : List ℕ) → Distinct l → ¬ (g ∈ without g l)
 unfolding without
@@ -173,6 +184,14 @@ numbersFrom-distinct first zero = tt
 numbersFrom-distinct first (suc count) = (
   (λ m. let b : (first + 1 ≤ first) × (first < first + 1 + count) = numbersFrom-bounds (first + 1) count first m in omega arith),
   numbersFrom-distinct (first + 1) count,
+)
+
+pub numbersFrom-rising : (first count : ℕ) → Rising (numbersFrom first count)
+unfolding numbersFrom
+numbersFrom-rising first zero = tt
+numbersFrom-rising first (suc count) = (
+  (λ y m. let b : (first + 1 ≤ y) × (y < first + 1 + count) = numbersFrom-bounds (first + 1) count y m in omega arith),
+  numbersFrom-rising (first + 1) count,
 )
 
 -- Distinct numbers below n are at most n.

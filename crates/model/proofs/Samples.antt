@@ -163,6 +163,26 @@ overtaking =
     popItem 8 1 ∷
     popItem 8 3 ∷ [])
 
+-- Document 02, #111. N = 1, in one state: write from cell 0 to 1, store of 5 to cell 0, write from cell 1 to 0. Then rounds of the first two, the
+-- store before the transfer is fetched: each is a ring.
+unfoldable pub copyOrStore : List ℕ
+unfolding join
+copyOrStore =
+    join
+    ((1 ∷ 2 ∷ 1 ∷ 1 ∷ 1 ∷ 3 ∷ []) ∷
+    (30 ∷ 6 ∷ 0 ∷ 0 ∷ 0 ∷ 0 ∷ 0 ∷ 2 ∷ 0 ∷ 0 ∷ 1 ∷ 0 ∷ 0 ∷ 0 ∷ []) ∷
+    (6 ∷ 2 ∷ 0 ∷ 0 ∷ 0 ∷ 0 ∷ 0 ∷ 0 ∷ 0 ∷ 5 ∷ []) ∷
+    (30 ∷ 6 ∷ 0 ∷ 0 ∷ 0 ∷ 0 ∷ 1 ∷ 2 ∷ 0 ∷ 0 ∷ 0 ∷ 0 ∷ 0 ∷ 0 ∷ []) ∷ [])
+
+-- Two stores in the round, or one.
+unfoldable pub longRound : List ℕ
+unfolding join writeItem storeItem popItem
+longRound = join (writeItem ∷ storeItem 1 0 ∷ storeItem 1 0 ∷ popItem 7 0 ∷ popItem 8 1 ∷ [])
+
+unfoldable pub shortRound : List ℕ
+unfolding join writeItem storeItem popItem
+shortRound = join (writeItem ∷ storeItem 1 0 ∷ popItem 7 0 ∷ popItem 8 1 ∷ [])
+
 -- Document 02, #107. N = 1: so many bars from state 0 to state 0, then a store of 7 to cell 0, with a count of two bytes.
 unfoldable pub bars : ℕ → List ℕ
 bars ℕ.zero = []

@@ -16,7 +16,7 @@ use Rattle.model.specs.Lending.{Lent}
 use Rattle.model.specs.Slips.{writeSlipIn, writeSlip, readSlipIn, readSlip}
 use Rattle.model.specs.Starts.{writeStart, writeStartBytes, readStartInto, readStartIntoBytes}
 use Rattle.model.specs.Listings.{Listing, listingIn, listing, join}
-use Rattle.model.proofs.Samples.{neighbour, noItems, lateAfter, lateDelivery, deliveryFirst, alone, selfCopy, writeItem, popItem, copyThenStore, storeItem, assumeOf, storeTo, storeOf, valueItem, sums, twoTransfers, overtaking, barsThenStore, longStore, longAssume, barAlone, barRecord, farCopy, farCommands, farRecord, neighbours, twoAsked, thirdAsked, popAny, popFor, word, over, pastRange, assumeFrom, intoRegister, storeBoth, transferOf, accessItem, bareItem, readings, noReadings, gaugeStart}
+use Rattle.model.proofs.Samples.{neighbour, noItems, lateAfter, lateDelivery, deliveryFirst, alone, selfCopy, writeItem, popItem, copyThenStore, storeItem, assumeOf, storeTo, storeOf, valueItem, sums, twoTransfers, overtaking, copyOrStore, longRound, shortRound, barsThenStore, longStore, longAssume, barAlone, barRecord, farCopy, farCommands, farRecord, neighbours, twoAsked, thirdAsked, popAny, popFor, word, over, pastRange, assumeFrom, intoRegister, storeBoth, transferOf, accessItem, bareItem, readings, noReadings, gaugeStart}
 
 -- What is asked: the whole check with what both lists hold, the same on bytes, a listing or a slip with what the memory holds, a slip read with N and
 -- what the counts hold; a start written from a cell list, and read into one, and both with lists of bytes.
@@ -321,6 +321,19 @@ verdictRows =
     -- "queue order drawn as an arrow": the ring would leave out the store
     ringRow twoTransfers overtaking 3 (0 ∷ 1 ∷ 2 ∷ []) (0 ∷ 0 ∷ 1 ∷ 0 ∷ []) ∷ []
 
+-- Document 02, #111: which ring of several.
+pub ringRows : List Row
+unfolding join ringRow writeItem popItem storeItem copyOrStore longRound shortRound
+ringRows =
+    -- "as few groups as any closed walk along arrows has": 3 4 and not 0 1 2, which document 01's rule found
+    ringRow copyOrStore (0 ∷ 9 ∷ (longRound ++ shortRound)) 5 (3 ∷ 4 ∷ []) (5 ∷ 5 ∷ []) ∷
+    -- "Of several, take the one whose numbers, listed from its lowest group, come first": 0 1 and not 2 3; 0 1 and not 0 2
+    ringRow copyOrStore (0 ∷ 8 ∷ (shortRound ++ shortRound)) 4 (0 ∷ 1 ∷ []) (5 ∷ 5 ∷ []) ∷
+    ringRow copyOrStore
+    (0 ∷ 7 ∷
+    join (writeItem ∷ storeItem 1 0 ∷ (3 ∷ 6 ∷ 1 ∷ 2 ∷ []) ∷ popItem 7 0 ∷ popItem 7 1 ∷ popItem 8 1 ∷ popItem 8 0 ∷ [])) 3 (0 ∷ 1 ∷ [])
+    (0 ∷ 5 ∷ []) ∷ []
+
 -- Document 02, #107: the forms of a count and of a transition's number, and each refusal at its place.
 pub transitionRows : List Row
 unfolding orderRow refusedRow assumeOf storeTo barsThenStore longStore longAssume
@@ -567,6 +580,10 @@ pub verdict-rows : Answered verdictRows
 unfolding reply verdictRows
 verdict-rows = refl
 
+pub ring-rows : Answered ringRows
+unfolding reply ringRows
+ring-rows = refl
+
 pub transition-rows : Answered transitionRows
 unfolding reply transitionRows
 transition-rows = refl
@@ -592,12 +609,13 @@ answered-both : (rows more : List Row) → Answered rows → Answered more → A
 answered-both rows more h g =
     map-append (λ (row : Row). reply (row .question)) rows more ∙ ap₂ _++_ h g ∙ sym (map-append (λ (row : Row). row .expected) rows more)
 
-pub every-row : Answered (readingRows ++ (replayRows ++ (verdictRows ++ (transitionRows ++ (rankRows ++ (neighbourRows ++ (sumRows ++ startRows)))))))
+pub every-row : Answered (readingRows ++ (replayRows ++ (verdictRows ++ (ringRows ++ (transitionRows ++ (rankRows ++ (neighbourRows ++ (sumRows ++ startRows))))))))
 every-row =
-    answered-both readingRows (replayRows ++ (verdictRows ++ (transitionRows ++ (rankRows ++ (neighbourRows ++ (sumRows ++ startRows)))))) reading-rows
-    (answered-both replayRows (verdictRows ++ (transitionRows ++ (rankRows ++ (neighbourRows ++ (sumRows ++ startRows))))) replay-rows
-    (answered-both verdictRows (transitionRows ++ (rankRows ++ (neighbourRows ++ (sumRows ++ startRows)))) verdict-rows
+    answered-both readingRows (replayRows ++ (verdictRows ++ (ringRows ++ (transitionRows ++ (rankRows ++ (neighbourRows ++ (sumRows ++ startRows))))))) reading-rows
+    (answered-both replayRows (verdictRows ++ (ringRows ++ (transitionRows ++ (rankRows ++ (neighbourRows ++ (sumRows ++ startRows)))))) replay-rows
+    (answered-both verdictRows (ringRows ++ (transitionRows ++ (rankRows ++ (neighbourRows ++ (sumRows ++ startRows))))) verdict-rows
+    (answered-both ringRows (transitionRows ++ (rankRows ++ (neighbourRows ++ (sumRows ++ startRows)))) ring-rows
     (answered-both transitionRows (rankRows ++ (neighbourRows ++ (sumRows ++ startRows))) transition-rows
     (answered-both rankRows (neighbourRows ++ (sumRows ++ startRows)) rank-rows
     (answered-both neighbourRows (sumRows ++ startRows) neighbour-rows
-    (answered-both sumRows startRows sum-rows start-rows))))))
+    (answered-both sumRows startRows sum-rows start-rows)))))))

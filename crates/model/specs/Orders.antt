@@ -57,15 +57,15 @@ pub data Verdict : Type 0 where
   ordered : List ℕ → Verdict
   cyclic : List ℕ → Verdict
 
--- "The ring: if no group can be taken, begin at the lowest unplaced group", which is the first of those left.
-unfoldable pub judgedBy : (groups : ℕ) → (placed unplaced : List ℕ) → List Edge → Verdict
+-- "The ring: if no group can be taken", it is the ring among those left.
+unfoldable pub judgedBy : (placed unplaced : List ℕ) → List Edge → Verdict
 unfolding ring
-judgedBy groups placed [] edges = ordered placed
-judgedBy groups placed (g ∷ rest) edges = cyclic (ring groups g edges)
+judgedBy placed [] edges = ordered placed
+judgedBy placed (g ∷ rest) edges = cyclic (ring (g ∷ rest) edges)
 
 -- The verdict on so many groups with these arrows.
 unfoldable pub verdict : (groups : ℕ) → List Edge → Verdict
 unfolding numbersFrom place judgedBy
 verdict groups edges =
     let p : Placing = place groups (numbersFrom 0 groups) edges in
-    judgedBy groups (p .placed) (p .unplaced) (p .edges)
+    judgedBy (p .placed) (p .unplaced) (p .edges)
