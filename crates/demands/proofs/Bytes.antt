@@ -19,9 +19,9 @@ use Rattle.model.proofs.Accepted.{AcceptedParts, accepted-parts}
 use Rattle.acceptance.proofs.Acceptance.{record-accepted-iff-run}
 use Rattle.model.proofs.Lists.{_∈_}
 use Rattle.ordering.proofs.Edges.{_⟶_, edges-agree}
-use Rattle.ordering.proofs.Orders.{TopologicalOrder, Cycle}
+use Rattle.ordering.proofs.Orders.{TopologicalOrder, ShortestRing}
 use Rattle.ordering.proofs.Verdicts.{ordered-or-cyclic}
-use Rattle.ordering.proofs.Runs.{run-order, run-cycle}
+use Rattle.ordering.proofs.Runs.{run-order, run-ring}
 use Rattle.record_facts.proofs.FactsHold.{facts}
 use Rattle.serializability.specs.Claim.{Serializable}
 use Rattle.serializability.proofs.Serializability.{serializable}
@@ -76,10 +76,10 @@ module _ (program start recorded : List ℕ) (a : Accepted) (bytes : AreBytes re
   unfolding verdictOn
   order-forward = run-order (a .run .last .opened) (a .run .events) below
 
-  -- The ring is two or more groups along arrows, from its lowest number.
-  pub ring-closed : (cycle : List ℕ) → verdictOn (a .run) ≡ cyclic cycle → Cycle (a .run .last .opened) (edgesOf (a .run .events)) cycle
+  -- The ring is the shortest: two or more groups along arrows, from its lowest number.
+  pub ring-shortest : (ring : List ℕ) → verdictOn (a .run) ≡ cyclic ring → ShortestRing (a .run .last .opened) (edgesOf (a .run .events)) ring
   unfolding verdictOn
-  ring-closed = run-cycle (a .run .last .opened) (a .run .events) below
+  ring-shortest = run-ring (a .run .last .opened) (a .run .events) below
 
   -- One of the two always comes.
   pub order-or-ring : ((groups : List ℕ) × (verdictOn (a .run) ≡ ordered groups)) ⊎ ((cycle : List ℕ) × (verdictOn (a .run) ≡ cyclic cycle))

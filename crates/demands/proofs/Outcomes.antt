@@ -16,12 +16,12 @@ use Rattle.model.specs.Rules.{Rank, Cell}
 use Rattle.model.specs.Orders.{Verdict, ordered, cyclic}
 use Rattle.model.specs.Checks.{accept, verdictOn, lastCells, Accepted, fill, Outcome, listed, answered, Verdicts, checkResultIn, checkResult}
 use Rattle.model.proofs.Laws.{bind-ok, required, ok-injective, refused≢ok}
-use Rattle.ordering.proofs.Orders.{TopologicalOrder, Cycle, cycle-length}
+use Rattle.ordering.proofs.Orders.{TopologicalOrder, ShortestRing, cycle-length}
 use Rattle.serializability.specs.Claim.{Serializable}
 use Rattle.demands.specs.Entries.{Form, entries, firstEntries}
 use Rattle.demands.specs.Demands.{groupsOf, arrowsOf, cellsOf, Answerable, IsVerdict, countIn, Untouched, RefusedAs, IsRing, IsOrder}
 use Rattle.demands.specs.Demands.{Demand1, Demand2, Demand3, MeetsDemands}
-use Rattle.demands.proofs.Bytes.{accepted-iff-run, arrows-are-happens-before, order-forward, ring-closed, accepted-serializable}
+use Rattle.demands.proofs.Bytes.{accepted-iff-run, arrows-are-happens-before, order-forward, ring-shortest, accepted-serializable}
 use Rattle.demands.proofs.Entries.{written, capacity, entries-length, filled-entries, filled-reads, filled-untouched}
 use Rattle.demands.proofs.LastCells.{at-front, last-cells-length, last-cell-at}
 use Rattle.demands.proofs.Refusals.{check-tabled}
@@ -134,8 +134,8 @@ module _ (form : Form) (program start recorded order cells : List ℕ) (bytes : 
     forward : (groups : List ℕ) → verdictOn (a .run) ≡ ordered groups → TopologicalOrder (groupsOf a) (arrowsOf a) groups
     forward = order-forward program start recorded a bytes (given .accepted)
 
-    closed : (cycle : List ℕ) → verdictOn (a .run) ≡ cyclic cycle → Cycle (groupsOf a) (arrowsOf a) cycle
-    closed = ring-closed program start recorded a bytes (given .accepted)
+    shortest : (ring : List ℕ) → verdictOn (a .run) ≡ cyclic ring → ShortestRing (groupsOf a) (arrowsOf a) ring
+    shortest = ring-shortest program start recorded a bytes (given .accepted)
 
     serial : Serializable (a .program) (a .readings) (a .run)
     serial = accepted-serializable program start recorded a bytes (given .accepted)
@@ -155,7 +155,7 @@ module _ (form : Form) (program start recorded order cells : List ℕ) (bytes : 
     -- The order list: the verdict's groups, which are no more than there are, and behind them what it was.
     few-listed : (v : Verdict) → verdictOn (a .run) ≡ v → length (listed v) ≤ groupsOf a
     few-listed (ordered groups) is = omega (arith, forward groups is .count)
-    few-listed (cyclic cycle) is = cycle-length (groupsOf a) (arrowsOf a) cycle (closed cycle is)
+    few-listed (cyclic cycle) is = cycle-length (groupsOf a) (arrowsOf a) cycle (shortest cycle is .cycle)
 
     order-kept : (v : Verdict) → verdictOn (a .run) ≡ v → Untouched form (countIn (answered v)) order (fill (written form (listed v)) order)
     order-kept v is =
@@ -168,7 +168,7 @@ module _ (form : Form) (program start recorded order cells : List ℕ) (bytes : 
     ring-read : (n : ℕ) → filled .answer ≡ Ring n → IsRing a (firstEntries form n (filled .order)) n
     ring-read n h =
         let (cycle, is, count) = answered-ring (verdictOn (a .run)) h in
-        rw (groups-read (cyclic cycle) is count) (record { count = count; cycle = closed cycle is })
+        rw (groups-read (cyclic cycle) is count) (record { count = count; shortest = shortest cycle is })
 
     order-read : (n : ℕ) → filled .answer ≡ Order n → IsOrder a (firstEntries form n (filled .order)) n
     order-read n h =

@@ -26,7 +26,7 @@ use Rattle.model.specs.Checks.{accept, Accepted, orderItems, Outcome}
 use Rattle.acceptance.specs.Bare.{bare}
 use Rattle.model.proofs.Lists.{_∈_}
 use Rattle.ordering.proofs.Edges.{_⟶_}
-use Rattle.ordering.proofs.Orders.{TopologicalOrder, Cycle}
+use Rattle.ordering.proofs.Orders.{TopologicalOrder, ShortestRing}
 use Rattle.serializability.specs.Claim.{Serialization}
 use Rattle.demands.specs.Entries.{Form, width, entries, firstEntries}
 
@@ -117,10 +117,11 @@ abbrev pub NoSerialRun : Accepted → Type 0
 NoSerialRun a =
     (items : List Item) (run : Replayed) → SerialRun (a .program) (a .readings) items run → ¬ (SameTrace (a .run .events) (run .events))
 
--- "two or more groups, no repeat, each with an arrow to the next and the last to the first; listed from its lowest number": so many.
+-- "two or more groups, no repeat, each with an arrow to the next and the last to the first; listed from its lowest number": so many, which are "as few
+-- groups as any closed walk along arrows has", and of several such the first.
 pub record IsRing (a : Accepted) (groups : List ℕ) (n : ℕ) : Type 0 where
   pub count : length groups ≡ n
-  pub cycle : Cycle (groupsOf a) (arrowsOf a) groups
+  pub shortest : ShortestRing (groupsOf a) (arrowsOf a) groups
 
 -- "a permutation of all groups in which every arrow goes forward"; and the items that it stands for are "a plain run with that trace, the record's
 -- value at each access, and the same last cells and registers".

@@ -15,8 +15,8 @@ use Rattle.model.specs.HappensBefore.{Edge}
 use Rattle.model.specs.Orders.{hasEdgeInto, firstFree, without, notFrom, Placing, stuck, placeNext, place}
 use Rattle.model.proofs.Selections.{select-keeps, select-within}
 use Rattle.model.proofs.Laws.{decided}
-use Rattle.model.proofs.Lists.{_∈_, here, there, Distinct, Precedes, precedes-rest, precedes-later}
-use Rattle.model.proofs.Lists.{without-keeps, without-within, without-length, without-distinct, without-gone}
+use Rattle.model.proofs.Lists.{_∈_, here, there, Distinct, Rising, Precedes, precedes-rest, precedes-later}
+use Rattle.model.proofs.Lists.{without-keeps, without-within, without-length, without-distinct, without-rising, without-gone}
 
 -- All edges are between these groups.
 abbrev pub Within : List ℕ → List Edge → Type 0
@@ -95,9 +95,11 @@ pub record Placed (groups : List ℕ) (edges : List Edge) (p : Placing) : Type 0
   pub unplaced-within : (g : ℕ) → g ∈ p .unplaced → g ∈ groups
   pub placed-once : Distinct (p .placed)
   pub unplaced-once : Distinct (p .unplaced)
+  pub unplaced-rise : Rising groups → Rising (p .unplaced)
   pub count : length (p .placed) + length (p .unplaced) ≡ length groups
   pub forward : (e : Edge) → e ∈ edges → e .to ∈ p .placed → Precedes (p .placed) (e .from) (e .to)
   pub edges-left : (e : Edge) → e ∈ p .edges → e ∈ edges
+  pub edges-kept : (e : Edge) → e ∈ edges → ¬ (e .from ∈ p .placed) → e ∈ p .edges
   pub left-within : Within (p .unplaced) (p .edges)
   pub nothing-free : firstFree (p .edges) (p .unplaced) ≡ none
 
@@ -112,9 +114,11 @@ stuck-placed groups edges h d w =
       unplaced-within = λ g m. m;
       placed-once = tt;
       unplaced-once = d;
+      unplaced-rise = λ r. r;
       count = omega arith;
       forward = λ e m k. absurd (List·Memᴰ·not-nil k);
       edges-left = λ e m. m;
+      edges-kept = λ e m n. m;
       left-within = w;
       nothing-free = h;
     }
@@ -154,9 +158,11 @@ module _ (groups : List ℕ) (edges : List Edge) (g : ℕ) (f : firstFree edges 
         unplaced-within = λ h m. without-within g h groups (r .unplaced-within h m);
         placed-once = ((λ m. without-gone g groups d (r .placed-within g m)), r .placed-once);
         unplaced-once = r .unplaced-once;
+        unplaced-rise = λ rise. r .unplaced-rise (without-rising g groups rise);
         count = omega (arith, r .count, without-length g groups (free edges groups g f .0));
         forward = taken-forward (rest .placed) (r .forward);
         edges-left = λ e m. notFrom-within g edges (r .edges-left e m) .0;
+        edges-kept = λ e m n. r .edges-kept e (notFrom-keeps g edges m (λ s. n (here s))) (λ k. n (there k));
         left-within = r .left-within;
         nothing-free = r .nothing-free;
       }

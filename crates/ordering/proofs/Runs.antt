@@ -15,8 +15,8 @@ use Rattle.model.specs.Checks.{listed}
 use Rattle.ordering.proofs.Edges.{_⟶_, edges-agree}
 use Rattle.ordering.proofs.Chains.{Reaches, reaches-relates}
 use Rattle.model.proofs.Lists.{_∈_, Precedes, precedes-trans}
-use Rattle.ordering.proofs.Orders.{Proper, TopologicalOrder, Cycle, cycle-length}
-use Rattle.ordering.proofs.Verdicts.{verdict-order, verdict-cycle, rising-ordered}
+use Rattle.ordering.proofs.Orders.{Proper, TopologicalOrder, Cycle, ShortestRing, cycle-length}
+use Rattle.ordering.proofs.Verdicts.{verdict-order, verdict-shortest-ring, rising-ordered}
 
 -- By either reason, the one event stands before the other in the run, and nothing between them passes some test.
 pub reason-follows : {events : List Event} {x y : Event} → ProgramOrder events x y ⊎ Conflict events x y →
@@ -55,10 +55,13 @@ module _ (groups : ℕ) (events : List Event) (below : (i : ℕ) (e : Event) →
     pub chain-forward : {g h : ℕ} → Reaches events g h → (g ≡ h) ⊎ Precedes l g h
     chain-forward = reaches-relates events (Precedes l) (λ g k h. precedes-trans l (run-order .once)) edge-forward
 
-  -- A cycle goes along edges.
+  -- A cycle is the shortest ring, and goes along edges.
   module _ (l : List ℕ) (cycle : verdict groups (edgesOf events) ≡ cyclic l) where
+    pub run-ring : ShortestRing groups (edgesOf events) l
+    run-ring = verdict-shortest-ring groups (edgesOf events) run-proper l cycle
+
     pub run-cycle : Cycle groups (edgesOf events) l
-    run-cycle = verdict-cycle groups (edgesOf events) run-proper l cycle
+    run-cycle = run-ring .cycle
 
     pub cycle-next : (i g h : ℕ) → getElem? l i ≡ some g → getElem? l (suc i) ≡ some h → HappensBefore events g h
     cycle-next i g h p q = edges-agree events g h .0 (run-cycle .next i g h p q)

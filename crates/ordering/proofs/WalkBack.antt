@@ -1,34 +1,57 @@
 -- The walk back. Where no group can be taken, an edge leads into each unplaced group, from an unplaced group; so the walk can always step back, and
 -- since its groups are distinct and unplaced it meets one of them again before its turns run out. The walk goes along the edges, so its part up to
--- the group that is met again is closed.
-use Prim.Native.Nat.{ℕ, zero, suc, _+_, _≤_, _<_, min}
+-- the group that is met again is closed. So wherever no group can be taken some walk closes, of no more groups than are left.
+use Prim.Native.Nat.{ℕ, zero, suc, _+_, _<_, min}
 use mathlib.Core.Path.{_≡_, refl, sym, ap, _∙_}
 use mathlib.Core.Bool.{true, false≢true}
 use mathlib.Core.List.{List, [], _∷_, _++_, Memᴰ·cast, Memᴰ·append-left}
 use mathlib.Core.List.{List·Memᴰ·not-nil, List·Memᴰ·cases-cons}
 use mathlib.Core.Logic.{_⊎_, inl, inr, ⊎-elim}
 use mathlib.Core.Option.{Option, some, none, Option·none-ne-some, Option·some-injective}
-use native.Mathlib.Nat.{min-le-left, min-le-right, min-eq-left, min-eq-right}
+use native.Mathlib.Nat.{min-eq-left, min-eq-right}
 use native.Mathlib.Omega.{arith}
 use lib.Dec.{eqb, leb}
 use lib.ListN.{length}
 use borrow.Author.Tests.{eqb-true, eqb-false, leb-true, leb-false}
-use Rattle.model.specs.Choice.{member}
+use Rattle.model.specs.Choice.{when, member}
 use Rattle.model.specs.HappensBefore.{Edge}
 use Rattle.model.specs.Orders.{hasEdgeInto, firstFree}
-use Rattle.model.specs.Rings.{lower, predecessor, upTo, walkBack}
+use Rattle.model.specs.Rings.{lower}
 use Rattle.model.proofs.Laws.{decided}
 use Rattle.model.proofs.Lists.{_∈_, here, there, member-true, member-false, Distinct, distinct-front, distinct-within}
 use Rattle.ordering.proofs.Edges.{_⟶_}
-use Rattle.ordering.proofs.Placing.{Within, into-edge, none-free}
+use Rattle.ordering.proofs.Placing.{Within, none-free}
 use Rattle.ordering.proofs.Walks.{Along, Closed, along-front, closed-turns}
+
+-- Of arrows that all come from unplaced groups, the lowest start of one that leads to g.
+unfoldable pub predecessor : ℕ → List Edge → Option ℕ
+unfolding lower
+predecessor g [] = none
+predecessor g (e ∷ edges) = when (eqb (e .to) g) (λ _. some (lower (e .from) (predecessor g edges))) (λ _. predecessor g edges)
+
+-- The list up to its first g, that one included.
+unfoldable pub upTo : ℕ → List ℕ → List ℕ
+upTo g [] = []
+upTo g (h ∷ walk) = when (eqb h g) (λ _. h ∷ []) (λ _. h ∷ upTo g walk)
+
+unfoldable pub stepBack : (ℕ → List ℕ) → Option ℕ → List ℕ
+stepBack walk none = []
+stepBack walk (some h) = walk h
+
+-- Back each time to the lowest predecessor, until a group repeats; then the part between the repeats. The walk has its last group first, and each
+-- group of it has an arrow to the one that it was reached from, so this order is along the arrows.
+unfoldable pub walkBack : (turns : ℕ) → (walk : List ℕ) → (g : ℕ) → List Edge → List ℕ
+unfolding member predecessor upTo stepBack
+walkBack zero walk g edges = []
+walkBack (suc turns) walk g edges =
+    when (member g walk) (λ _. upTo g walk) (λ _. stepBack (λ h. walkBack turns (g ∷ walk) h edges) (predecessor g edges))
 
 -- The smaller of two numbers is one of them.
 pub min-either : (a b : ℕ) → (min a b ≡ a) ⊎ (min a b ≡ b)
 min-either a b = decided (leb a b) (λ t. inl (min-eq-left (leb-true a b t))) (λ t. inr (min-eq-right (omega (arith, leb-false a b t))))
 
 -- A predecessor has an edge to the group, and a group with an edge into it has one.
-lower-either : (g : ℕ) (o : Option ℕ) → (lower g o ≡ g) ⊎ (o ≡ some (lower g o))
+pub lower-either : (g : ℕ) (o : Option ℕ) → (lower g o ≡ g) ⊎ (o ≡ some (lower g o))
 unfolding lower
 lower-either g none = inl refl
 lower-either g (some h) = ⊎-elim (λ e. inl e) (λ e. inr (ap some (sym e))) (min-either g h)
@@ -53,32 +76,6 @@ unfolding hasEdgeInto predecessor
 has-predecessor g [] h = absurd (false≢true h)
 has-predecessor g (d ∷ edges) h =
     decided (eqb (d .to) g) (λ t. (lower (d .from) (predecessor g edges), rw t)) (λ t. rw t (has-predecessor g edges (rw t at h)))
-
--- It is the lowest of the groups with an edge there.
-lower-le : (g : ℕ) (o : Option ℕ) → lower g o ≤ g
-unfolding lower
-lower-le g none = omega arith
-lower-le g (some h) = min-le-left g h
-
-lower-le-some : (g : ℕ) (o : Option ℕ) (h : ℕ) → o ≡ some h → lower g o ≤ h
-unfolding lower
-lower-le-some g o h e = rw e (min-le-right g h)
-
-pub predecessor-lowest : (g : ℕ) (edges : List Edge) (h : ℕ) → predecessor g edges ≡ some h → (e : Edge) → e ∈ edges → e .to ≡ g → h ≤ e .from
-unfolding predecessor
-predecessor-lowest g [] h p e m q = absurd (List·Memᴰ·not-nil m)
-predecessor-lowest g (d ∷ edges) h p e m q =
-    decided (eqb (d .to) g)
-    (λ t. let low : lower (d .from) (predecessor g edges) ≡ h = Option·some-injective _ _ (rw t at p) in
-    ⊎-elim
-    (λ s. omega (arith, lower-le (d .from) (predecessor g edges), ap (λ (c : Edge). c .from) s))
-    (λ k. let (x, r) = has-predecessor g edges (into-edge g edges k q) in
-    omega (arith, lower-le-some (d .from) (predecessor g edges) x r, predecessor-lowest g edges x r e k q))
-    (List·Memᴰ·cases-cons m))
-    (λ t. ⊎-elim
-    (λ s. absurd (eqb-false (d .to) g t (ap (λ (c : Edge). c .to) (sym s) ∙ q)))
-    (λ k. predecessor-lowest g edges h (rw t at p) e k q)
-    (List·Memᴰ·cases-cons m))
 
 -- The walk up to a group that it has.
 pub upTo-split : (g : ℕ) (walk : List ℕ) → g ∈ walk →

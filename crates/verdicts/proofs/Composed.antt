@@ -11,6 +11,7 @@ use Rattle.model.specs.Limits.{maxItems}
 use Rattle.model.specs.Choice.{select, numbersFrom}
 use Rattle.model.specs.HappensBefore.{Edge}
 use Rattle.model.specs.Orders.{Placing, ordered, cyclic, judgedBy, verdict}
+use Rattle.model.specs.Rings.{ring}
 use Rattle.memory.proofs.Filled.{numbers-at}
 use Rattle.model.proofs.Lists.{numbersFrom-bounds}
 use Rattle.graph.specs.Edges.{among, groupsIn}
@@ -21,7 +22,7 @@ use Rattle.placing.specs.Placed.{placedAs}
 use Rattle.placing.proofs.Left.{allPlaced, left-waiting, left-edges, none-left, one-left}
 use Rattle.placing.proofs.Selecting.{select-same}
 use Rattle.rings.specs.declared.Found.{Found}
-use Rattle.rings.specs.Found.{waits, ringFrom, ringAmong, foundAs}
+use Rattle.rings.specs.Found.{waits, ringAmong, foundAs}
 use Rattle.verdicts.specs.declared.Judged.{Judged}
 use Rattle.verdicts.specs.Judged.{judgedAs}
 
@@ -39,13 +40,13 @@ module _ (groups : ℕ) (edges : List Edge) (between : AllAmong groups edges) wh
   -- Where all are placed, the verdict is their order.
   pub all-placed : groups ≤ length (placing .placed) → verdict groups edges ≡ ordered (placing .placed)
   unfolding verdict judgedBy
-  all-placed h = ap (λ l. judgedBy groups (placing .placed) l (placing .edges)) (none-left groups edges between h)
+  all-placed h = ap (λ l. judgedBy (placing .placed) l (placing .edges)) (none-left groups edges between h)
 
   -- Where some are not, it is the ring among those that wait.
-  ring-left : groups ≤ maxItems → ringAmong groups (inDegrees (placing .edges)) edges ≡ ringFrom groups (placing .unplaced) (placing .edges)
+  ring-left : groups ≤ maxItems → ringAmong groups (inDegrees (placing .edges)) edges ≡ ring (placing .unplaced) (placing .edges)
   unfolding ringAmong
   ring-left fits =
-      ap₂ (ringFrom groups)
+      ap₂ ring
       (select-same (waits (inDegrees (placing .edges))) _ (numbersFrom 0 groups)
       (λ g m. waits-counted (placing .edges) g (omega (arith, numbersFrom-bounds 0 groups g m .1)))
       ∙ sym (left-waiting groups edges between))
@@ -55,11 +56,11 @@ module _ (groups : ℕ) (edges : List Edge) (between : AllAmong groups edges) wh
 
   pub some-left : groups ≤ maxItems → length (placing .placed) < groups →
       verdict groups edges ≡ cyclic (ringAmong groups (inDegrees (placing .edges)) edges)
-  unfolding verdict judgedBy ringFrom
+  unfolding verdict judgedBy
   some-left fits h =
       let (g, rest, first) = one-left groups edges between h in
-      ap (λ l. judgedBy groups (placing .placed) l (placing .edges)) first
-      ∙ ap cyclic (sym (ring-left fits ∙ ap (λ l. ringFrom groups l (placing .edges)) first))
+      ap (λ l. judgedBy (placing .placed) l (placing .edges)) first
+      ∙ ap cyclic (sym (ring-left fits ∙ ap (λ l. ring l (placing .edges)) first))
 
 -- What the code answers, by what it was told of the placing and of the ring.
 module _ (groups : ℕ) (drawn : List Edge) where
