@@ -1,124 +1,176 @@
--- The arrows of a table are gone through from the last to the first: at each place the array has the predecessors along those behind it.
-use Prim.Native.Nat.{ℕ, suc, _-_, _≤_, _<_, min}
-use mathlib.Core.Path.{_≡_, sym, ap, _∙_}
-use mathlib.Core.Bool.{Bool, true, false}
-use mathlib.Core.List.{List, [], _∷_, map}
+-- The arrows are gone through one by one: an entry is the lowest end of those from its group that lie nearer.
+use Prim.Native.Nat.{ℕ, _+_, _-_, _≤_, _<_, min}
+use mathlib.Core.Path.{_≡_, sym, ap, _∙_, subst}
+use mathlib.Core.Bool.{Bool, true, false, false≢true, true≢false}
+use mathlib.Core.List.{List}
+use mathlib.Core.Logic.{_⊎_, inl, inr, ⊎-elim}
+use native.Mathlib.Nat.{min-le-left, min-le-right}
 use native.Mathlib.Omega.{arith}
-use native.Mathlib.Numerals.{add-one}
-use lib.Dec.{ltb}
-use lib.ListN.{getD, set, replicate}
-use borrow.Author.Tests.{ltb-true}
-use Rattle.model.specs.Limits.{maxItems}
-use Rattle.model.specs.Choice.{select, numbersFrom}
-use Rattle.model.specs.HappensBefore.{Edge}
-use Rattle.model.proofs.Laws.{decided, and-true}
-use Rattle.model.proofs.Selections.{select-yes, select-no}
+use lib.Dec.{eqb}
+use lib.ListN.{length, getD, set, length-set, replicate, length-replicate, getD-replicate}
+use lib.Seq.{getD-set-same, getD-set-other}
+use borrow.Author.Tests.{eqb-true, eqb-false}
+use Rattle.model.specs.Limits.{maxItems, maxEdges}
+use Rattle.model.proofs.Laws.{decided}
+use Rattle.model.proofs.Lists.{_∈_}
 use Rattle.memory.specs.Tables.{Table}
-use Rattle.graph.specs.Edges.{sourceAt, targetAt, edgeAt, among}
-use Rattle.rings.specs.Found.{waits}
-use Rattle.rings.specs.Predecessors.{lowestPredecessors, counts, counted, edge}
-use Rattle.rings.proofs.Before.{no-predecessors, predecessors-more}
+use Rattle.graph.specs.Edges.{edgeAt, edgesIn, sourceAt, targetAt}
+use Rattle.ordering.proofs.Edges.{_⟶_}
+use Rattle.ordering.proofs.WalkBack.{min-either}
+use Rattle.rings.specs.Found.{counts, counted, edge}
+use Rattle.rings.specs.Searches.{entryAt}
+use Rattle.rings.specs.Nexts.{Nearer, TellsNearer, Nexts}
+use Rattle.rings.proofs.Left.{entry-is}
+use Rattle.rings.proofs.Noting.{counting, counted-in, in-counted}
 
--- An arrow that counts, and one that does not.
-module _ (groups : ℕ) (waiting : List ℕ) (e : Edge) where
-  pub record Counts : Type 0 where
-    pub between : among groups e ≡ true
-    pub waiting-from : waits waiting (e .from) ≡ true
-    pub from-below : e .from < groups
-    pub to-below : e .to < groups
+-- An arrow that was gone through, counts, and leads nearer.
+pub record Leads (groups : ℕ) (waiting : List ℕ) (table : Table) (D : ℕ → ℕ) (place x h : ℕ) : Type 0 where
+  pub k : ℕ
+  pub before : k < place
+  pub counting : counts groups waiting (edgeAt table k) ≡ true
+  pub starts : x ≡ sourceAt table k
+  pub ends : h ≡ targetAt table k
+  pub nearer : Nearer D x h
 
-  pub counting : counts groups waiting e ≡ true → Counts
-  unfolding counts
-  counting h =
-      let (inside, waits-there) = and-true (among groups e) (waits waiting (e .from)) h in
-      let (low, high) = and-true (ltb (e .from) groups) (ltb (e .to) groups) inside in
-      record { between = inside; waiting-from = waits-there; from-below = ltb-true (e .from) groups low; to-below = ltb-true (e .to) groups high }
+pub record Gathered (groups : ℕ) (waiting : List ℕ) (table : Table) (distances : List ℕ) (last : ℕ) (next : List ℕ) (place : ℕ) : Type 0 where
+  pub fits : groups ≤ maxItems
+  pub few : last ≤ maxEdges
+  pub within : place ≤ last
+  pub long : length next ≡ maxItems
+  pub sound : (x : ℕ) → x < maxItems → getD next x 0 < maxItems → Leads groups waiting table (entryAt distances) place x (getD next x 0)
+  pub lowest : (x h : ℕ) → Leads groups waiting table (entryAt distances) place x h → getD next x 0 ≤ h
 
-  counted-yes : (edges : List Edge) → counts groups waiting e ≡ true → counted groups waiting (e ∷ edges) ≡ e ∷ counted groups waiting edges
-  counted-yes edges h =
-      let c = counting h in
-      rw (
-        select-yes (among groups) e edges (c .between),
-        select-yes (λ d. waits waiting (d .from)) e (select (among groups) edges) (c .waiting-from),
-      )
+module _ (groups : ℕ) (waiting : List ℕ) (table : Table) (distances : List ℕ) where
+  later : {place x h : ℕ} → Leads groups waiting table (entryAt distances) place x h → Leads groups waiting table (entryAt distances) (place + 1) x h
+  later l = record { k = l .k; before = omega (arith, l .before); counting = l .counting; starts = l .starts; ends = l .ends; nearer = l .nearer }
 
-  counted-no : (edges : List Edge) → counts groups waiting e ≡ false → counted groups waiting (e ∷ edges) ≡ counted groups waiting edges
-  unfolding counts
-  counted-no edges h =
-      decided (among groups e)
-      (λ t. rw (select-yes (among groups) e edges t, select-no (λ d. waits waiting (d .from)) e (select (among groups) edges) (rw t at h)))
-      (λ t. rw (select-no (among groups) e edges t))
+  pub gathered-none : (count : ℕ) {last : ℕ} → groups ≤ maxItems → last ≡ min count maxEdges →
+      Gathered groups waiting table distances last (replicate maxItems maxItems) 0
+  gathered-none count fits e =
+      record {
+        fits = fits;
+        few = omega (arith, e, min-le-right count maxEdges);
+        within = omega arith;
+        long = length-replicate {A = ℕ} maxItems maxItems;
+        sound = λ x b h. absurd (omega (arith, h, getD-replicate {A = ℕ} maxItems x maxItems 0 b));
+        lowest = λ x h l. absurd (omega (arith, l .before));
+      }
 
-pub leads-inside : (groups : ℕ) (waiting : List ℕ) (from to : ℕ) → groups ≤ maxItems → {r : Bool} → r ≡ counts groups waiting (edge from to) →
-    r ≡ true → to < maxItems
-leads-inside groups waiting from to fits tested h = omega (arith, counting groups waiting (edge from to) (sym tested ∙ h) .to-below)
+  module _ {last : ℕ} {next : List ℕ} {place : ℕ} (g : Gathered groups waiting table distances last next place) (more : place < last) {from to : ℕ}
+      (starts : from ≡ sourceAt table place) (leads : to ≡ targetAt table place) {r : Bool} (tested : r ≡ counts groups waiting (edge from to)) where
+    read : counts groups waiting (edgeAt table place) ≡ r
+    read = sym (tested ∙ ap (λ x. counts groups waiting (edge x to)) starts ∙ ap (λ x. counts groups waiting (edge (sourceAt table place) x)) leads)
 
--- The arrows from a place on, up to another.
-pub edgesFrom : Table → (place limit : ℕ) → List Edge
-edgesFrom table place limit = map (edgeAt table) (numbersFrom place (limit - place))
+    -- Of the arrows up to the next: those before it, or it.
+    up-to : {x h : ℕ} → Leads groups waiting table (entryAt distances) (place + 1) x h →
+        Leads groups waiting table (entryAt distances) place x h ⊎
+        ((x ≡ from) × (h ≡ to) × (r ≡ true) × Nearer (entryAt distances) from to)
+    up-to {x} {h} l =
+        decided (eqb (l .k) place)
+        (λ t. let e : l .k ≡ place = eqb-true (l .k) place t in
+        let x-is : x ≡ from = l .starts ∙ ap (sourceAt table) e ∙ sym starts in
+        let h-is : h ≡ to = l .ends ∙ ap (targetAt table) e ∙ sym leads in
+        inr (
+          x-is,
+          h-is,
+          sym read ∙ ap (λ i. counts groups waiting (edgeAt table i)) (sym e) ∙ l .counting,
+          subst (λ (z : ℕ). Nearer (entryAt distances) from z) h-is (subst (λ (z : ℕ). Nearer (entryAt distances) z h) x-is (l .nearer)),
+        ))
+        (λ t. let n : ¬ (l .k ≡ place) = eqb-false (l .k) place t in
+        inl (record { k = l .k; before = omega (arith, l .before, n); counting = l .counting; starts = l .starts; ends = l .ends; nearer = l .nearer }))
 
-edges-none : (table : Table) (limit : ℕ) → edgesFrom table limit limit ≡ []
-unfolding edgesFrom numbersFrom
-edges-none table limit = let z : limit - limit ≡ 0 = omega arith in rw z
-
-edges-all : (table : Table) (limit : ℕ) → edgesFrom table 0 limit ≡ map (edgeAt table) (numbersFrom 0 limit)
-unfolding edgesFrom
-edges-all table limit = let z : limit - 0 ≡ limit = omega arith in rw z
-
-edges-more : (table : Table) (place limit : ℕ) → suc place ≤ limit →
-    edgesFrom table place limit ≡ edgeAt table place ∷ edgesFrom table (suc place) limit
-unfolding edgesFrom numbersFrom
-edges-more table place limit h =
-    let e : limit - place ≡ suc (limit - suc place) = omega arith in
-    rw (e, add-one place)
-
--- What the array has where the arrows from a place on were gone through.
-pub record Gathered (groups : ℕ) (waiting : List ℕ) (table : Table) (limit : ℕ) (before : List ℕ) (place : ℕ) : Type 0 where
-  pub within : place ≤ limit
-  pub same : before ≡ lowestPredecessors (counted groups waiting (edgesFrom table place limit))
-
-module _ (groups : ℕ) (waiting : List ℕ) (table : Table) (limit : ℕ) where
-  pub gathered-none : Gathered groups waiting table limit (replicate maxItems maxItems) limit
-  unfolding select
-  gathered-none = record { within = omega arith; same = rw (edges-none table limit) no-predecessors }
-
-  pub gathered-all : {before : List ℕ} {place : ℕ} → Gathered groups waiting table limit before place → place ≤ 0 →
-      before ≡ lowestPredecessors (counted groups waiting (map (edgeAt table) (numbersFrom 0 limit)))
-  gathered-all {place = place} g h =
-      let z : place ≡ 0 = omega arith in
-      g .same
-      ∙ ap (λ k. lowestPredecessors (counted groups waiting (edgesFrom table k limit))) z
-      ∙ ap (λ l. lowestPredecessors (counted groups waiting l)) (edges-all table limit)
-
-  -- One arrow more, as it was read from the table.
-  module _ {before : List ℕ} {place : ℕ} (g : Gathered groups waiting table limit before place) (some : 0 < place) {from to : ℕ}
-      (starts : from ≡ sourceAt table (place - 1)) (leads : to ≡ targetAt table (place - 1)) where
-    next : edgesFrom table (place - 1) limit ≡ edge from to ∷ edgesFrom table place limit
-    next =
-        let e : suc (place - 1) ≡ place = omega arith in
-        edges-more table (place - 1) limit (omega (arith, g .within))
-        ∙ ap (λ k. edgeAt table (place - 1) ∷ edgesFrom table k limit) e
-        ∙ ap (λ k. edge k (targetAt table (place - 1)) ∷ edgesFrom table place limit) (sym starts)
-        ∙ ap (λ k. edge from k ∷ edgesFrom table place limit) (sym leads)
-
-    pub gathered-no : {r : Bool} → r ≡ counts groups waiting (edge from to) → r ≡ false → Gathered groups waiting table limit before (place - 1)
-    gathered-no tested h =
+    skip : ((r ≡ true) → ¬ Nearer (entryAt distances) from to) → Gathered groups waiting table distances last next (place + 1)
+    skip not-one =
         record {
-          within = omega (arith, g .within);
-          same =
-              g .same
-              ∙ ap lowestPredecessors (sym (ap (counted groups waiting) next ∙ counted-no groups waiting (edge from to) _ (sym tested ∙ h)));
+          fits = g .fits;
+          few = g .few;
+          within = omega (arith, more);
+          long = g .long;
+          sound = λ x b h. later (g .sound x b h);
+          lowest = λ x h l. ⊎-elim (g .lowest x h) (λ (a, b, c, d). absurd (not-one c d)) (up-to l);
         }
 
-    pub gathered-yes : groups ≤ maxItems → {r : Bool} → r ≡ counts groups waiting (edge from to) → r ≡ true → {after : List ℕ} →
-        after ≡ set before to (min from (getD before to 0)) → Gathered groups waiting table limit after (place - 1)
-    gathered-yes fits tested h lowered =
-        let c = counting groups waiting (edge from to) (sym tested ∙ h) in
-        record {
-          within = omega (arith, g .within);
-          same =
-              rw (lowered, g .same)
-              (predecessors-more (edge from to) (counted groups waiting (edgesFrom table place limit))
-              (omega (arith, c .from-below)) (omega (arith, c .to-below))
-              ∙ ap lowestPredecessors (sym (ap (counted groups waiting) next ∙ counted-yes groups waiting (edge from to) _ (sym tested ∙ h))));
-        }
+    pub gathered-no : r ≡ false → Gathered groups waiting table distances last next (place + 1)
+    gathered-no f = skip (λ t. absurd (true≢false (sym t ∙ f)))
+
+    pub gathered-far : {n : Bool} → TellsNearer distances from to n → n ≡ false → Gathered groups waiting table distances last next (place + 1)
+    gathered-far told f = skip (λ t. told .no-nearer f)
+
+    pub gathered-inside : r ≡ true → from < maxItems
+    gathered-inside t = omega (arith, counting groups waiting table (edge from to) (sym tested ∙ t) .2, g .fits)
+
+    pub gathered-yes : r ≡ true → {n : Bool} → TellsNearer distances from to n → n ≡ true → {next′ : List ℕ} →
+        next′ ≡ set next from (min to (getD next from 0)) → Gathered groups waiting table distances last next′ (place + 1)
+    gathered-yes t told near {next′} e =
+        rw e
+        (record {
+          fits = g .fits;
+          few = g .few;
+          within = omega (arith, more);
+          long = length-set next from low ∙ g .long;
+          sound = λ x b h. decided (eqb x from)
+              (λ u. let x-is : x ≡ from = eqb-true x from u in
+              subst (λ (z : ℕ). Leads groups waiting table (entryAt distances) (place + 1) z (getD (set next from low) z 0)) (sym x-is)
+              (subst (λ (z : ℕ). Leads groups waiting table (entryAt distances) (place + 1) from z) (sym own)
+              (own-leads (omega (arith, h, own, ap (λ z. getD (set next from low) z 0) x-is)))))
+              (λ u. let o = getD-set-other next from x low 0 (eqb-false x from u) in
+              subst (λ (z : ℕ). Leads groups waiting table (entryAt distances) (place + 1) x z) (sym o)
+              (later (g .sound x b (omega (arith, o, h)))));
+          lowest = λ x h l. ⊎-elim
+              (λ old. decided (eqb x from)
+              (λ u. let x-is : x ≡ from = eqb-true x from u in
+              let under = g .lowest from h (subst (λ (z : ℕ). Leads groups waiting table (entryAt distances) place z h) x-is old) in
+              omega (arith, ap (λ z. getD (set next from low) z 0) x-is, own, min-le-right to (getD next from 0), under))
+              (λ u. omega (arith, getD-set-other next from x low 0 (eqb-false x from u), g .lowest x h old)))
+              (λ (x-is, h-is, c, d). omega (arith, ap (λ z. getD (set next from low) z 0) x-is, own, min-le-left to (getD next from 0), h-is))
+              (up-to l);
+        })
+      where
+        low : ℕ
+        low = min to (getD next from 0)
+
+        own : getD (set next from low) from 0 ≡ low
+        own = getD-set-same next from low 0 (omega (arith, g .long, gathered-inside t))
+
+        own-leads : low < maxItems → Leads groups waiting table (entryAt distances) (place + 1) from low
+        own-leads h =
+            ⊎-elim
+            (λ m. subst (λ (z : ℕ). Leads groups waiting table (entryAt distances) (place + 1) from z) (sym m)
+            (record { k = place; before = omega arith; counting = read ∙ t; starts = starts; ends = leads; nearer = told .yes near }))
+            (λ m. subst (λ (z : ℕ). Leads groups waiting table (entryAt distances) (place + 1) from z) (sym m)
+            (later (g .sound from (gathered-inside t) (omega (arith, m, h)))))
+            (min-either to (getD next from 0))
+
+  pub gathered-all : (count : ℕ) {last place : ℕ} {next : List ℕ} → Gathered groups waiting table distances last next place → last ≡ min count maxEdges →
+      last ≤ place → Nexts (counted groups waiting (edgesIn count table)) (entryAt distances) (entryAt next)
+  gathered-all count {last} {place} {next} g e done =
+      let all : place ≡ min count maxEdges = omega (arith, e, done, g .within) in
+      record {
+        sound = λ x b h.
+            let is = entry-is next x (g .long) in
+            let l = g .sound x b (omega (arith, is, h)) in
+            subst (λ (z : ℕ). (x ⟶ z ∈ counted groups waiting (edgesIn count table)) × Nearer (entryAt distances) x z) (sym is)
+            (counted-in groups waiting table (min count maxEdges) (l .k) (omega (arith, l .before, all)) (l .counting) (l .starts) (l .ends), l .nearer);
+        lowest = λ x h m near.
+            let (k, b, c, p, q) = in-counted groups waiting table (min count maxEdges) m in
+            omega (
+              arith,
+              entry-is next x (g .long),
+              g .lowest x h (record { k = k; before = omega (arith, b, all); counting = c; starts = p; ends = q; nearer = near }),
+            );
+      }
+
+-- What the test for a nearer group tells.
+module _ (distances : List ℕ) {from to near : ℕ} where
+  pub nearer-unmet : near ≡ entryAt distances to → near ≡ 0 → TellsNearer distances from to false
+  nearer-unmet e z = record { yes = λ t. absurd (false≢true t); no-nearer = λ f n. n .0 (sym e ∙ z) }
+
+  pub nearer-far : {far : ℕ} → far ≡ entryAt distances from → near ≡ entryAt distances to → far ≤ near → TellsNearer distances from to false
+  nearer-far d e le = record { yes = λ t. absurd (false≢true t); no-nearer = λ f n. omega (arith, n .1, d, e, le) }
+
+  pub nearer-yes : {far : ℕ} → far ≡ entryAt distances from → near ≡ entryAt distances to → ¬ (near ≡ 0) → near < far → far - near ≡ 1 →
+      TellsNearer distances from to true
+  nearer-yes d e n lt one = record { yes = λ t. ((λ z. n (e ∙ z)), omega (arith, d, e, lt, one)); no-nearer = λ f. absurd (true≢false f) }
+
+  pub nearer-no : {far : ℕ} → far ≡ entryAt distances from → near ≡ entryAt distances to → near < far → ¬ (far - near ≡ 1) → TellsNearer distances from to false
+  nearer-no d e lt other = record { yes = λ t. absurd (false≢true t); no-nearer = λ f n. other (omega (arith, n .1, d, e, lt)) }

@@ -1,6 +1,12 @@
-pub mod Before
+pub mod Counting
+pub mod Left
+pub mod Noting
+pub mod Meeting
+pub mod GoingBack
+pub mod Ending
+pub mod Thinning
+pub mod Looking
 pub mod Gathering
-pub mod Parts
-pub mod Stepping
-pub mod Turned
-pub mod Searching
+pub mod Following
+pub mod Round
+pub mod Whole

@@ -1,4 +1,5 @@
 pub mod Found
-pub mod Predecessors
-pub mod Walks
-pub mod Turning
+pub mod Searches
+pub mod Removing
+pub mod Roots
+pub mod Nexts

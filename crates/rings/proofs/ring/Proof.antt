@@ -1,67 +1,47 @@
--- `ring`: the ring that is found from the groups that are left is the one that is found from all. Each turn is a law of `Searching`.
-use Prim.Native.Nat.{_-_, _≤_}
+-- `ring`: what the calls answer, put together by `Whole`.
+use mathlib.Core.Path.{refl}
+use Rattle.rings.proofs.Whole.{answer, fits-in, cleared, rooted, ready-again}
 use borrow.Author.Needs.{needs}
-use Rattle.model.specs.Limits.{maxItems}
-use Rattle.graph.specs.Edges.{edgesIn}
-use Rattle.graph.proofs.Edges.{groups-bound}
-use Rattle.rings.proofs.Turned.{found-none}
-use Rattle.rings.proofs.Searching.{Searching, searching-begins, searching-more, searching-ends, searching-found, answer}
 use Rattle.rings.proofs.ring.Statement.{statement}
 use Rattle.rings.proofs.ring.Tie as tie
 
-abbrev Inv-loop : tie.InvT-loop
-Inv-loop groups edges count waiting limit group₀ group = Searching limit waiting (edgesIn count edges) group
+list-arrows-requires : tie.Need-list-arrows-requires
+list-arrows-requires c κs = search cleared
 
-abbrev μ-loop : tie.MeasureT-loop
-μ-loop groups edges count waiting limit group₀ group = limit - group
+closest-requires : tie.Need-closest-requires
+closest-requires c κs = search rooted
 
-loop-holds : tie.Need-loop-holds Inv-loop μ-loop
-loop-holds c = searching-begins _ _ _
+search-requires : tie.Need-search-requires
+search-requires c κs = search ready-again
 
--- The groups fit the arrays.
-fits : (c : tie.In-loop Inv-loop μ-loop) → c .before .before .groups-in .result ≤ maxItems
-fits c = rw (c .before .before .groups-in .ensures) (groups-bound _)
+lowest-nexts-requires : tie.Need-lowest-nexts-requires
+lowest-nexts-requires c κs =
+    let atClosest = c .before .before .before .before .before .before .before .before in
+    let atLimit = atClosest .before .before .before .before .before .before .before .before .before .before .before .before .before in
+    fits-in _ (atLimit .groups-in .ensures)
 
-walk-back-requires : tie.Need-walk-back-requires Inv-loop μ-loop
-walk-back-requires c κs =
-    let atFound = c .before .before in
-    fits (atFound .before .before)
-
-returns : tie.Need-returns Inv-loop μ-loop
+returns : tie.Need-returns
 returns c =
-    let atWalk = c .before in
-    let atBefore = atWalk .before .before in
-    let atFound = atBefore .before in
-    let atTurn = atFound .before .before in
-    answer _ _ _ (atTurn .before .before .groups-in .ensures)
-    (searching-found _ _ _ (atTurn .before .loop .inv) (fits atTurn) (atTurn .loop-test .taken) (atFound .if1 .taken)
-    (atBefore .lowest-predecessors .ensures) (atWalk .walk-back .ensures))
-    (c .from-lowest .ensures)
-
-loop-again : tie.Need-loop-again Inv-loop μ-loop
-loop-again c =
-    let atTurn = c .before .before in
-    searching-more _ _ _ (atTurn .before .loop .inv) (atTurn .loop-test .taken) (c .if1 .left)
-
-returns-2 : tie.Need-returns-2 Inv-loop μ-loop
-returns-2 c =
-    answer _ _ _ (c .before .before .groups-in .ensures) (searching-ends _ _ _ (c .before .loop .inv) (c .loop-test .left)) found-none
+    let atNexts = c .before .before in
+    let atSearch = atNexts .before .before in
+    let atClosest = atSearch .before .before .before .before .before .before .before in
+    let atLists = atClosest .before .before .before .before .before .before .before .before in
+    let atLimit = atLists .before .before .before .before .before in
+    answer _ _ _ _ (atLimit .groups-in .ensures) _ (atLists .list-arrows .ensures) (atClosest .closest .ensures) (atSearch .search .ensures) refl
+    (atNexts .lowest-nexts .ensures) (c .follow .ensures)
 
 pub ring-spec : {M : Type 1} → statement M
 ring-spec =
     tie.close
     (tie.spec
-    Inv-loop
-    μ-loop
     (λ c κs. search needs)
-    loop-holds
-    (λ c. let b = fits c in search needs)
-    (λ c. let b = fits c in search needs)
-    (λ c κs. fits (c .before .before))
-    walk-back-requires
-    (λ c κs. c .walk-back .ensures .within)
-    returns
+    list-arrows-requires
+    closest-requires
+    search-requires
     (λ c. search needs)
     (λ c. search needs)
-    loop-again
-    returns-2)
+    (λ c. search needs)
+    (λ c. search needs)
+    lowest-nexts-requires
+    (λ c κs. search needs)
+    returns)

@@ -1,0 +1,56 @@
+-- Which group the ring is found from.
+use Prim.Native.Nat.{ℕ, _≤_, _<_}
+use mathlib.Core.Path.{_≡_}
+use mathlib.Core.Bool.{Bool, false}
+use mathlib.Core.List.{List}
+use mathlib.Core.Logic.{_⊎_}
+use lib.ListN.{length}
+use Rattle.model.specs.Limits.{maxItems}
+use Rattle.model.specs.HappensBefore.{Edge}
+use Rattle.model.proofs.Lists.{_∈_}
+use Rattle.memory.specs.Tables.{Table}
+use Rattle.ordering.proofs.Edges.{_⟶_}
+use Rattle.ordering.proofs.Lengths.{Walk}
+use Rattle.rings.specs.declared.searches.Closing.{Closing}
+use Rattle.rings.specs.Searches.{Lists, Indexed}
+
+-- What a look at the arrows into a group tells: where none is told, all come from groups below it.
+pub record Entered (root : ℕ) (table : Table) (heads links : List ℕ) (told : Bool) : Type 0 where
+  pub none-above : told ≡ false → (E : List Edge) → Lists E table heads links → (x : ℕ) → x ⟶ root ∈ E → x < root
+
+-- So many arrows lead back to this group; to a group z not fewer than m do, and if as many, it is no higher than z.
+pub record Beats (c : Closing) (m z : ℕ) : Type 0 where
+  pub some-lead : ¬ (c .arrows ≡ 0)
+  pub fewer : c .arrows ≤ m
+  pub lower : c .arrows ≡ m → c .group ≤ z
+
+-- One of two that beats what either of them beats.
+pub record Better (best found c : Closing) : Type 0 where
+  pub one : (_≡_ {A = Closing} c best) ⊎ (_≡_ {A = Closing} c found)
+  pub as-best : (m z : ℕ) → Beats best m z → Beats c m z
+  pub as-found : (m z : ℕ) → Beats found m z → Beats c m z
+
+-- More arrows, up to as many as there may be.
+pub record Grown (most more : ℕ) : Type 0 where
+  pub fits : more ≤ maxItems
+  pub larger : 1 ≤ most → most < maxItems → most < more
+
+-- What the looks from all groups begin with.
+pub record Rooted (groups most : ℕ) (tails lows queue : List ℕ) : Type 0 where
+  pub fits : groups ≤ maxItems
+  pub most-fits : most ≤ maxItems
+  pub tails-long : length tails ≡ maxItems
+  pub lows-long : length lows ≡ maxItems
+  pub queue-long : length queue ≡ maxItems
+
+-- Of all ways round of at most so many arrows it has the fewest, and the lowest group.
+pub record Choice (E : List Edge) (most : ℕ) (c : Closing) : Type 0 where
+  pub walk : ¬ (c .arrows ≡ 0) → Walk E (c .arrows) (c .group) (c .group)
+  pub beats : (m z : ℕ) → 1 ≤ m → m ≤ most → Walk E m z z → Beats c m z
+
+pub record Chosen (groups most : ℕ) (table : Table) (heads links tails onward lows queue : List ℕ) (c : Closing) : Type 0 where
+  pub lows-long : length lows ≡ maxItems
+  pub queue-long : length queue ≡ maxItems
+  pub low : c .group < maxItems
+  pub few : c .arrows ≤ most
+  pub choice : (E : List Edge) → Indexed groups E table heads links tails onward → Choice E most c
