@@ -174,7 +174,7 @@ const THINGS: usize = 2 * OF_RUNS + 2 * 5 + 3 + 7 + 3;
 #[test]
 fn small_records_overtake_in_every_way() {
     let mut times = Times::new();
-    for index in 0..20_000 {
+    for index in 0..24_000 {
         let input = small_input(16, index);
         let accepted =
             accept(&input.program, &input.start, &input.record).expect("an execution is accepted");

@@ -5,6 +5,7 @@ mod common;
 use common::{accept_dated, assert_extras_caught, assert_extras_right, told};
 use second::check::{accept, Accepted};
 use second::extras::{listed, Extras, Functions, Told, Writer, DONE, RING, SECOND};
+use second::families::former_ring::former_groups;
 use second::groups::Group;
 use second::limits::{Outcome, Refusal};
 use second::listing::lines_of;
@@ -136,6 +137,17 @@ fn ranks_counted_from_0_in_cell_lines() {
             }
         }
         lines
+    });
+}
+
+#[test]
+fn document_01s_ring_listed() {
+    assert_lines_caught(&|accepted| {
+        let mut changed = accepted.clone();
+        if let Verdict::Ring(ring) = &mut changed.verdict {
+            *ring = former_groups(accepted);
+        }
+        lines_of(&changed)
     });
 }
 

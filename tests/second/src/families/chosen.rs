@@ -1,5 +1,6 @@
 //! Cases chosen from the generator: small judged runs, and refusals at many places.
 
+use super::former_ring::former_groups;
 use super::Named;
 use crate::check::{accept, accept_items, fill_bytes, Accepted, Answer};
 use crate::corpus::{Case, CheckCase, Expected};
@@ -44,10 +45,11 @@ fn class(accepted: &Accepted) -> Class {
     }
 }
 
-/// The kinds of the groups that the verdict lists.
+/// The kinds of the groups that are listed: in a ring, document 01's, by which all these cases were
+/// chosen.
 fn kinds(accepted: &Accepted) -> BTreeSet<Kind> {
     let kind_of = |&group: &usize| accepted.grouping.groups[group].kind;
-    accepted.verdict.groups().iter().map(kind_of).collect()
+    former_groups(accepted).iter().map(kind_of).collect()
 }
 
 /// The file of judged runs.

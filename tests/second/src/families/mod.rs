@@ -3,11 +3,14 @@
 pub mod base;
 pub mod chosen;
 pub mod extremes;
+pub mod former_ring;
 pub mod neighbours;
 pub mod parts;
 pub mod ranks;
 pub mod replay_table;
 pub mod row;
+pub mod script;
+pub mod shortest;
 pub mod slips;
 pub mod starts;
 pub mod sums;
@@ -55,6 +58,7 @@ pub fn files(seed: u64) -> Result<Vec<Named>, String> {
         neighbours::file(seed)?,
         sums::file(seed)?,
         starts::file(seed)?,
+        shortest::file(seed)?,
     ])
 }
 

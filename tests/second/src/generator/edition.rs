@@ -16,6 +16,8 @@ pub enum Edition {
     /// #102 too: sums at the edges of the range.
     Before103,
     /// #103 too: readings at the start.
+    Before111,
+    /// #111 too: runs with several rings.
     Today,
 }
 

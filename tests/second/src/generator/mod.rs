@@ -15,6 +15,7 @@ pub mod many_ranks;
 pub mod neighbours;
 pub mod programs;
 pub mod readings;
+pub mod rings;
 pub mod rng;
 pub mod slips;
 pub mod starts;
@@ -108,9 +109,10 @@ fn executed_at(
     pace: Pace,
     edition: Edition,
 ) -> Run {
-    let start = match edition {
-        Edition::Today => readings::now_and_then(rng, &mut program),
-        _ => Start::zero(&program),
+    let start = if edition >= Edition::Before111 {
+        readings::now_and_then(rng, &mut program)
+    } else {
+        Start::zero(&program)
     };
     let mut items = execution(rng, &program, busy, &start, pace);
     if pace.at_once {
@@ -206,7 +208,7 @@ fn any_run(rng: &mut Rng, edition: Edition) -> Run {
 
 /// The input for a run, with lists that are long enough or a little longer.
 fn roomy(rng: &mut Rng, (program, start, items): &Run, edition: Edition) -> Input {
-    let written_out = edition == Edition::Today && rng.chance(1, 5);
+    let written_out = edition >= Edition::Before111 && rng.chance(1, 5);
     Input {
         program: program.to_bytes(),
         start: if written_out {
@@ -239,6 +241,8 @@ pub struct Makers {
     many_ranks: Maker,
     /// With transfers that overtake each other: #108.
     neighbours: Maker,
+    /// With several rings: #111.
+    rings: Maker,
 }
 
 /// Small runs, for the exhaustive judge.
@@ -246,18 +250,22 @@ pub const SMALL_RUNS: Makers = Makers {
     few_ranks: small_run,
     many_ranks: many_ranks::small_run,
     neighbours: neighbours::small_run,
+    rings: rings::small_run,
 };
 /// Runs of any size.
 const ANY_RUNS: Makers = Makers {
     few_ranks: any_run,
     many_ranks: many_ranks::any_run,
     neighbours: neighbours::any_run,
+    rings: rings::any_run,
 };
 
-/// A run of one of the makings: four in twenty of more than eight ranks, and six with transfers
-/// that overtake each other; now and then widened.
+/// A run of one of the makings: one in six with several rings, and of the others four in twenty of
+/// more than eight ranks, and six with transfers that overtake each other; now and then widened.
 pub fn later_run(rng: &mut Rng, makers: Makers, edition: Edition) -> Run {
+    let ringed = edition == Edition::Today && rng.chance(1, 6);
     let maker = match rng.below(20) {
+        _ if ringed => makers.rings,
         0..=3 => makers.many_ranks,
         4..=9 => makers.neighbours,
         _ => makers.few_ranks,
@@ -302,7 +310,7 @@ fn made(seed: u64, index: u64, edition: Edition) -> Input {
         aimed_damage(&mut rng, &mut run, &mut input);
     }
     let without_start = input.start.is_empty();
-    if edition == Edition::Today && rng.chance(1, if without_start { 16 } else { 4 }) {
+    if edition >= Edition::Before111 && rng.chance(1, if without_start { 16 } else { 4 }) {
         aimed_starts::damage(&mut rng, &run, &mut input);
     }
     input

@@ -2,6 +2,8 @@
 
 #![allow(dead_code)]
 
+pub mod graph;
+
 use second::check::{accept, accept_items, fill_bytes, Accepted, Answer};
 use second::corpus::{Case, CheckCase, SlipCase};
 use second::corpus_reader::{corpus_files, read_file};
@@ -12,7 +14,7 @@ use second::generator::slips::slip_input;
 use second::generator::starts::{start_read_case, start_write_case};
 use second::generator::widen::{now_and_then, Run};
 use second::generator::{input, small_input, Input, Maker};
-use second::groups::{arrows, gather};
+use second::groups::{arrows, gather, Pairs};
 use second::harness::{between_guards, compare, compare_case, Subject};
 use second::judged::judge_observed;
 use second::limits::{Outcome, Refusal};
@@ -137,14 +139,18 @@ fn last_case_that(catches: impl Fn(&Case) -> bool) -> Option<&'static str> {
     caught.map(Case::name)
 }
 
+/// The name of the last case of the corpus that catches the subject.
+pub fn case_that_catches(subject: Subject) -> Option<&'static str> {
+    last_case_that(|case| match case {
+        Case::Check(case) => compare_case(&between_guards(subject), case).is_err(),
+        Case::Slip(_) | Case::StartWrite(_) | Case::StartRead(_) => false,
+    })
+}
+
 /// Fails unless both the generated inputs and the corpus catch the subject.
 pub fn assert_caught(subject: Subject) {
     let by_input = first_caught(subject).expect("a generated input must catch the subject");
-    let catches = |case: &Case| match case {
-        Case::Check(case) => compare_case(&between_guards(subject), case).is_err(),
-        Case::Slip(_) | Case::StartWrite(_) | Case::StartRead(_) => false,
-    };
-    let case = last_case_that(catches).expect("a case of the corpus must catch the subject");
+    let case = case_that_catches(subject).expect("a case of the corpus must catch the subject");
     println!("caught by input {by_input} and by the corpus's case {case}");
 }
 
@@ -250,6 +256,11 @@ pub fn accepted(made: Maker, seed: u64, index: u64) -> Accepted {
 pub fn accept_run((program, start, items): &Run) -> Outcome<Accepted> {
     let bytes = program.to_bytes();
     accept(&bytes, &start_bytes(start), &record_bytes(items))
+}
+
+/// The arrows of an accepted run.
+pub fn drawn_arrows(accepted: &Accepted) -> Pairs {
+    arrows(&accepted.run.steps, &accepted.grouping.group_of)
 }
 
 /// Whether an item takes a transition from 256 on.

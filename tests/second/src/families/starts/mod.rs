@@ -97,7 +97,7 @@ pub fn file(seed: u64) -> Result<Named, String> {
     cases.extend(judged_cases(&Source {
         family: "starts-judged",
         maker: run_by_readings,
-        edition: Edition::Today,
+        edition: Edition::Before111,
         seed,
         per_kind: JUDGED_PER_KIND,
     })?);
