@@ -7,6 +7,7 @@
 mod first;
 mod mixed;
 mod neighbours;
+mod rings;
 mod shapes;
 
 use second::check::{check_bytes, Answer};
@@ -61,6 +62,9 @@ second: tests/second. Its work for each group grows with the groups. Built for r
 mixed:  one item in three is a transfer's command, of all ranks and queues, done at once or waiting in many ways.
 falling, rising, ring: two ranks; arrows that fall, none that fall, and a ring of all groups.
 named:  sixteen transfers wait in one queue, each for another rank, and each pop names the rank whose entry stands last.
+far, many, woven: one rank; a ring within a ring, and so on, the shortest of 425, 125 and 213 groups. linked: rings that
+        overlap. hub: rings of three groups, all through one store that half of all groups lead to. crowd: two ranks in no
+        order, and short rings everywhere.
 program: so many transitions, each a write of constants, and a record of no items.
 start:  so many readings, 64 at each rank, and a record of no items. All others but one are from no start bytes.";
 
@@ -104,6 +108,30 @@ const SHAPES: [Shape; 5] = [
         cyclic: false,
     },
 ];
+
+/// Rings, of which the check alone is measured: the listing and the slip have no other work with them than with an order.
+const RINGS: [Shape; 6] = [
+    ring("far", rings::alone, |_, items| rings::far(items)),
+    ring("many", rings::alone, |_, items| rings::many(items)),
+    ring("woven", rings::alone, |_, items| rings::woven(items)),
+    ring("linked", rings::alone, |_, items| rings::linked(items)),
+    ring("hub", rings::alone, |_, items| rings::hub(items)),
+    ring("crowd", rings::both, |_, items| rings::crowd(items)),
+];
+
+/// A shape whose records have a ring.
+const fn ring(
+    name: &'static str,
+    program: fn() -> Program,
+    acts: fn(&Program, usize) -> Vec<Act>,
+) -> Shape {
+    Shape {
+        name,
+        program,
+        acts,
+        cyclic: true,
+    }
+}
 
 /// What both programs are given, and the memory that they fill.
 struct Input {
@@ -387,6 +415,9 @@ fn bench() -> Result<bool, String> {
             linear &= measured(work, shape)?;
         }
         run_b(work, "", &[])?;
+    }
+    for shape in &RINGS {
+        linear &= measured(&WORKS[0], shape)?;
     }
     run_b(&WORKS[0], " from 3 readings", &FEW_READINGS)?;
     linear &= programs(&WORKS[0])?;
