@@ -1,42 +1,35 @@
--- How a search begins, goes on and ends. The first group met from which an arrow of the root leads on shuts the shortest ways round; those that close
--- as short are the groups as far, and the lowest group on any of these ways is the lowest that was noted at one of them.
+-- How a search begins, goes on and ends. All groups from which fewer than so many arrows lead to the root are met, as far as they lie; so an arrow from
+-- the root to a group closes the shortest ways round by that group, and the best of these arrows closes the shortest of all, with the lowest group.
 use Prim.Native.Nat.{ℕ, zero, suc, _+_, _-_, _≤_, _<_, min}
 use mathlib.Core.Path.{_≡_, refl, sym, ap, _∙_, subst}
-use mathlib.Core.Bool.{Bool, true, false, true≢false}
-use mathlib.Core.List.{List}
-use mathlib.Core.Logic.{⊎-elim}
+use mathlib.Core.Logic.{_⊎_, inl, inr, ⊎-elim}
+use mathlib.Core.List.{List, _∷_, List·Memᴰ·not-nil, List·Memᴰ·cases-cons}
 use native.Mathlib.Nat.{min-le-left, min-le-right}
 use native.Mathlib.Numerals.{add-one}
 use native.Mathlib.Omega.{arith}
 use lib.Dec.{eqb, ltb}
 use lib.ListN.{length, getD, set, length-set, replicate, length-replicate, getD-replicate}
 use lib.Seq.{getD-set-same, getD-set-other}
-use borrow.Author.Tests.{eqb-true, eqb-false, eq-eqb, ne-eqb, ltb-true, ltb-false}
+use borrow.Author.Tests.{eqb-true, eqb-false, ltb-true, ltb-false}
 use Rattle.model.specs.Limits.{maxItems}
 use Rattle.model.specs.HappensBefore.{Edge}
 use Rattle.model.proofs.Laws.{decided}
-use Rattle.model.proofs.Lists.{_∈_}
+use Rattle.model.proofs.Lists.{_∈_, here, there}
 use Rattle.memory.specs.Tables.{Table}
+use Rattle.chains.specs.Chains.{members, olderIn}
+use Rattle.chains.proofs.Chains.{no-members, members-first}
+use Rattle.graph.specs.Edges.{targetAt}
 use Rattle.ordering.proofs.Edges.{_⟶_}
 use Rattle.ordering.proofs.Lengths.{Walk, stay, step, walk-join}
 use Rattle.ordering.proofs.Passing.{Passes, passes-walk, passes-step}
 use Rattle.ordering.proofs.WalkBack.{min-either}
 use Rattle.rings.specs.declared.searches.Closing.{Closing}
 use Rattle.rings.specs.declared.searches.Reached.{Reached}
-use Rattle.rings.specs.Searches.{entryAt, Lists, among, State, numbers, Shuts, Searching, closing, reachedAt, Ahead, Ready, Gone, Back, Notes, limitOf, Told, Distances, Searched}
+use Rattle.rings.specs.Searches.{entryAt, Lists, Onward, among, State, Arrays, numbers, reachedAt, Ahead, Back, Begun, Explored, Explores}
+use Rattle.rings.specs.Searches.{closing, Beats, Better, ClosesBy, Closes, Ready, Told, Distances, Searched}
 use Rattle.rings.proofs.Counting.{ones-set, ones-none}
-use Rattle.rings.proofs.Meeting.{Beyond, gone-back, state-complete, state-lowest}
-use Rattle.rings.proofs.Left.{outside, entry-is}
-
--- How many arrows are looked for next.
-module _ (best : Closing) (most : ℕ) where
-  pub limit-none : best .arrows ≡ 0 → most ≡ limitOf best most
-  unfolding limitOf
-  limit-none z = rw (eq-eqb (best .arrows) 0 z)
-
-  pub limit-best : ¬ (best .arrows ≡ 0) → best .arrows ≡ limitOf best most
-  unfolding limitOf
-  limit-best n = rw (ne-eqb (best .arrows) 0 n)
+use Rattle.rings.proofs.Meeting.{Beyond, state-complete, state-lowest}
+use Rattle.rings.proofs.Left.{outside, entry-is, among-keeps, among-within}
 
 -- Only the root is met.
 state-begins : (F : List Edge) (root : ℕ) (D L Q : ℕ → ℕ) → D root ≡ 1 → ((x : ℕ) → ¬ (x ≡ root) → D x ≡ 0) → L root ≡ root → Q 0 ≡ root →
@@ -58,304 +51,364 @@ state-begins F root D L Q one none low first =
     only : (x : ℕ) → ¬ (D x ≡ 0) → x ≡ root
     only x n = decided (eqb x root) (λ t. eqb-true x root t) (λ t. absurd (n (none x (eqb-false x root t))))
 
-module _ (root most : ℕ) (table : Table) (heads links left : List ℕ) where
-  pub search-begins : {lows queue : List ℕ} → Ready root most lows queue →
-      Searching root 0 1 most table heads links left (set (replicate maxItems 0) root 1) (set lows root root) (set queue 0 root) (closing root 0)
-  search-begins {lows} {queue} r =
-      let long : root < length {A = ℕ} (replicate maxItems 0) = omega (arith, r .root-fits, length-replicate {A = ℕ} maxItems 0) in
+module _ {root most : ℕ} {lows queue : List ℕ} (r : Ready root most lows queue) where
+  abbrev distances₀ : List ℕ
+  distances₀ = set (replicate maxItems 0) root 1
+
+  long : root < length {A = ℕ} (replicate maxItems 0)
+  long = omega (arith, r .root-fits, length-replicate {A = ℕ} maxItems 0)
+
+  cleared : (x : ℕ) → getD {A = ℕ} (replicate maxItems 0) x 0 ≡ 0
+  cleared x =
+      decided (ltb x maxItems)
+      (λ t. getD-replicate {A = ℕ} maxItems x 0 0 (ltb-true x maxItems t))
+      (λ t. outside (replicate maxItems 0) x (omega (arith, ltb-false x maxItems t, length-replicate {A = ℕ} maxItems 0)))
+
+  pub begun : Begun most distances₀ (set lows root root) (set queue 0 root)
+  begun =
       record {
-        stands =
-            record {
-              arrays =
-                  record {
-                    distances-long = length-set (replicate maxItems 0) root 1 ∙ length-replicate {A = ℕ} maxItems 0;
-                    lows-long = length-set lows root root ∙ r .lows-long;
-                    queue-long = length-set queue 0 root ∙ r .queue-long;
-                    count = sym (ones-set (replicate maxItems 0) root 1 long (cleared root) (λ z. omega (arith, z)) ∙ ap suc (ones-none maxItems));
-                    fits = omega arith;
-                  };
-              state = λ E l.
-                  state-begins (among left E) root _ _ _ (getD-set-same (replicate maxItems 0) root 1 0 long)
-                  (λ x n. getD-set-other (replicate maxItems 0) root x 1 0 n ∙ cleared x)
-                  (getD-set-same lows root root 0 (omega (arith, r .root-fits, r .lows-long)))
-                  (getD-set-same queue 0 root 0 (omega (arith, r .queue-long)));
-            };
         most-fits = r .most-fits;
-        few = omega arith;
-        low = omega arith;
-        shuts = λ E l.
+        arrays =
             record {
-              begun = λ z. refl;
-              way = λ n. absurd (n refl);
-              ahead = λ n. absurd (n refl);
-              seen = λ j h. absurd (omega (arith, h));
+              distances-long = length-set (replicate maxItems 0) root 1 ∙ length-replicate {A = ℕ} maxItems 0;
+              lows-long = length-set lows root root ∙ r .lows-long;
+              queue-long = length-set queue 0 root ∙ r .queue-long;
+              count = sym (ones-set (replicate maxItems 0) root 1 long (cleared root) (λ z. omega (arith, z)) ∙ ap suc (ones-none maxItems));
+              fits = omega arith;
             };
       }
-    where
-      cleared : (x : ℕ) → getD {A = ℕ} (replicate maxItems 0) x 0 ≡ 0
-      cleared x =
-          decided (ltb x maxItems)
-          (λ t. getD-replicate {A = ℕ} maxItems x 0 0 (ltb-true x maxItems t))
-          (λ t. outside (replicate maxItems 0) x (omega (arith, ltb-false x maxItems t, length-replicate {A = ℕ} maxItems 0)))
 
--- What is told when nothing that is left lies within the limit.
-module _ (F : List Edge) (root at end most : ℕ) (D L Q : ℕ → ℕ) (c : Closing) (s : State F root at end D L Q)
-    (k : Shuts F root at end D L Q c) (bound : Beyond F root at end D L Q s (limitOf c most)) where
-  abbrev beyond : {m : ℕ} → m ≤ limitOf c most → Beyond F root at end D L Q s m
-  beyond le i low b = omega (arith, le, bound i low b)
+  root-met : (F : List Edge) → State F root 0 1 (numbers distances₀) (numbers (set lows root root)) (numbers (set queue 0 root))
+  root-met F =
+      state-begins F root _ _ _ (getD-set-same (replicate maxItems 0) root 1 0 long)
+      (λ x n. getD-set-other (replicate maxItems 0) root x 1 0 n ∙ cleared x)
+      (getD-set-same lows root root 0 (omega (arith, r .root-fits, r .lows-long)))
+      (getD-set-same queue 0 root 0 (omega (arith, r .queue-long)))
 
-  -- An arrow from the root, from whose end so few arrows lead back.
-  closed-by : {m h : ℕ} → suc m ≤ limitOf c most → root ⟶ h ∈ F → Walk F m h root →
-      (¬ (c .arrows ≡ 0)) × (c .arrows ≤ D h) × (D h ≤ suc m) × (c .arrows ≡ D h → c .group ≤ L h)
-  closed-by {m} {h} few a w =
-      let (n, le) = state-complete F root at end D L Q s m h (beyond (omega (arith, few))) w in
-      let (j, b, q) = gone-back F root at end D L Q s (suc m) h (beyond few) n (omega (arith, le)) in
-      let (some-lead, near, low) = k .seen j b (subst (λ (y : ℕ). root ⟶ y ∈ F) (sym q) a) in
-      (some-lead, omega (arith, near, ap D q), omega (arith, le), (λ e. omega (arith, ap L q, low (e ∙ ap D (sym q)))))
+-- The loop over the groups met.
+pub record Exploring (most : ℕ) (table : Table) (heads links left distances₀ lows₀ queue₀ distances lows queue : List ℕ) (end at : ℕ) : Type 0 where
+  pub most-fits : most ≤ maxItems
+  pub arrays : Arrays end distances lows queue
+  pub state : (root : ℕ) (E : List Edge) → Lists E table heads links →
+      State (among left E) root 0 1 (numbers distances₀) (numbers lows₀) (numbers queue₀) →
+      State (among left E) root at end (numbers distances) (numbers lows) (numbers queue)
 
-  pub told : Told F root most c
-  told =
-      record {
-        none = λ z m one few w. none-there z m one few w;
-        way = k .way;
-        least = least;
-        lowest = λ n z p. lowest n z (p .i) (p .j) (p .to) (p .on) (p .whole);
-      }
-    where
-      none-there : c .arrows ≡ 0 → (m : ℕ) → 1 ≤ m → m ≤ most → ¬ Walk F m root root
-      none-there z zero one few w = omega (arith, one)
-      none-there z (suc m) one few (step a w) = closed-by (omega (arith, few, limit-none c most z)) a w .0 z
+module _ {most : ℕ} {table : Table} {heads links left distances₀ lows₀ queue₀ : List ℕ} where
+  pub exploring-first : Begun most distances₀ lows₀ queue₀ → Exploring most table heads links left distances₀ lows₀ queue₀ distances₀ lows₀ queue₀ 1 0
+  exploring-first b = record { most-fits = b .most-fits; arrays = b .arrays; state = λ root E l s. s }
 
-      least : ¬ (c .arrows ≡ 0) → (m : ℕ) → 1 ≤ m → Walk F m root root → c .arrows ≤ m
-      least n zero one w = absurd (omega (arith, one))
-      least n (suc m) one (step a w) =
-          decided (ltb (suc m) (c .arrows))
-          (λ t. let (some-lead, near, le, low) = closed-by (omega (arith, ltb-true (suc m) (c .arrows) t, limit-best c most n)) a w in omega (arith, near, le))
-          (λ t. omega (arith, ltb-false (suc m) (c .arrows) t))
+  module _ {distances lows queue : List ℕ} {end at : ℕ} (e : Exploring most table heads links left distances₀ lows₀ queue₀ distances lows queue end at) where
+    -- The next group of the queue.
+    module _ {next : Reached} (read : next ≡ reachedAt at distances lows queue) where
+      lies-at : next .level ≡ getD distances (getD queue at 0) 0
+      lies-at =
+          ap (λ (r : Reached). r .level) read
+          ∙ entry-is distances (entryAt queue at) (e .arrays .distances-long)
+          ∙ ap (numbers distances) (entry-is queue at (e .arrays .queue-long))
 
-      lowest : ¬ (c .arrows ≡ 0) → (z i j : ℕ) → Walk F i root z → Walk F j z root → i + j ≡ c .arrows → c .group ≤ z
-      lowest n z zero j (stay e) v whole = first-is (j) (subst (λ (y : ℕ). Walk F j y root) (sym e) v) whole
-        where
-          -- The root itself is on the way.
-          first-is : (j : ℕ) → Walk F j root root → 0 + j ≡ c .arrows → c .group ≤ z
-          first-is zero v whole = absurd (n (omega (arith, whole)))
-          first-is (suc j) (step {h = h} a w) whole =
-              let (some-lead, near, le, low) = closed-by (omega (arith, whole, limit-best c most n)) a w in
-              let lies : D h ≡ j + 0 + 1 = omega (arith, near, le, whole) in
-              omega (
-                arith,
-                low (omega (arith, lies, whole)),
-                e,
-                state-lowest F root at end D L Q s j 0 h root (beyond (omega (arith, whole, limit-best c most n))) lies w (stay refl),
-              )
-      lowest n z (suc i) j (step {h = h} a w) v whole =
-          let (some-lead, near, le, low) = closed-by {m = i + j} (omega (arith, whole, limit-best c most n)) a (walk-join w v) in
-          let lies : D h ≡ i + j + 1 = omega (arith, near, le, whole) in
-          omega (
-            arith,
-            low (omega (arith, lies, whole)),
-            state-lowest F root at end D L Q s i j h z (beyond (omega (arith, whole, limit-best c most n))) lies w v,
-          )
-
-  pub lying : ¬ (c .arrows ≡ 0) → Distances F root (c .arrows) D
-  lying n =
-      record {
-        first = s .first;
-        sound = λ x met. passes-walk (s .way x met);
-        complete = λ m x few w. state-complete F root at end D L Q s m x (beyond (omega (arith, few, limit-best c most n))) w;
-      }
-
-module _ {root at end most : ℕ} {table : Table} {heads links left distances lows queue : List ℕ} {c : Closing}
-    (s : Searching root at end most table heads links left distances lows queue c) where
-  -- The next group of the queue.
-  module _ {next : Reached} (read : next ≡ reachedAt at distances lows queue) where
-    here-at : next .group ≡ getD queue at 0
-    here-at = ap (λ (r : Reached). r .group) read ∙ entry-is queue at (s .stands .arrays .queue-long)
-
-    lies-at : next .level ≡ getD distances (getD queue at 0) 0
-    lies-at =
-        ap (λ (r : Reached). r .level) read
-        ∙ entry-is distances (entryAt queue at) (s .stands .arrays .distances-long)
-        ∙ ap (numbers distances) (entry-is queue at (s .stands .arrays .queue-long))
-
-    low-at : next .low ≡ getD lows (getD queue at 0) 0
-    low-at =
-        ap (λ (r : Reached). r .low) read
-        ∙ entry-is lows (entryAt queue at) (s .stands .arrays .lows-long)
-        ∙ ap (numbers lows) (entry-is queue at (s .stands .arrays .queue-long))
-
-  limited : limitOf c most ≤ most
-  limited =
-      decided (eqb (c .arrows) 0)
-      (λ t. omega (arith, limit-none c most (eqb-true (c .arrows) 0 t)))
-      (λ t. omega (arith, limit-best c most (eqb-false (c .arrows) 0 t), s .few))
-
-  pub goes-back : at < end → {next : Reached} → next ≡ reachedAt at distances lows queue → {limit : ℕ} → limit ≡ limitOf c most → next .level ≤ limit →
-      Ahead root at next end table heads links left distances lows queue
-  goes-back ahead read e near =
-      record {
-        ahead = ahead;
-        here-is = sym (here-at read);
-        far = lies-at read;
-        lowest = low-at read;
-        fits = omega (arith, e, near, limited, s .most-fits);
-        stands = s .stands;
-      }
-
-  pub at-below : at < end → at < maxItems
-  at-below h = omega (arith, h, s .stands .arrays .fits)
-
-  pub search-less : at < end → maxItems - (at + 1) < maxItems - at
-  search-less h = omega (arith, h, s .stands .arrays .fits)
-
-  ended : ((E : List Edge) (l : Lists E table heads links) →
-      Beyond (among left E) root at end (numbers distances) (numbers lows) (numbers queue) (s .stands .state E l) (limitOf c most)) →
-      Searched root most table heads links left distances lows queue c
-  ended bound =
-      record {
-        distances-long = s .stands .arrays .distances-long;
-        lows-long = s .stands .arrays .lows-long;
-        queue-long = s .stands .arrays .queue-long;
-        few = s .few;
-        low = s .low;
-        told = λ E l. told (among left E) root at end most _ _ _ c (s .stands .state E l) (s .shuts E l) (bound E l);
-        far = λ n E l. lying (among left E) root at end most _ _ _ c (s .stands .state E l) (s .shuts E l) (bound E l) n;
-      }
-
-  pub too-far : at < end → {next : Reached} → next ≡ reachedAt at distances lows queue → {limit : ℕ} → limit ≡ limitOf c most → limit < next .level →
-      Searched root most table heads links left distances lows queue c
-  too-far ahead read e far = ended (λ E lists i low high. omega (arith, e, far, lies-at read, s .stands .state E lists .rising at i low high))
-
-  pub nothing-left : end ≤ at → Searched root most table heads links left distances lows queue c
-  nothing-left done = ended (λ E l i low high. absurd (omega (arith, done, low, high)))
-
-  -- The next group's arrows are gone back, and none of them comes from the root, or one does.
-  module _ {distances′ lows′ queue′ : List ℕ} {end′ : ℕ} {closed : Bool}
-      (b : Back root at table heads links left distances lows queue distances′ lows′ queue′ end′ closed) where
-    module _ (E : List Edge) (l : Lists E table heads links) where
-      abbrev F : List Edge
-      F = among left E
-
-      gone : Gone F root at end′ (numbers distances) (numbers lows) (numbers queue) (numbers distances′) (numbers lows′) (numbers queue′) closed
-      gone = b .gone E l
-
-      far-still : (j : ℕ) → j ≤ at → getD distances′ (getD queue′ j 0) 0 ≡ getD distances (getD queue j 0) 0
-      far-still j h = ap (numbers distances′) (gone .kept .place j h) ∙ gone .kept .lies j h
-
-      low-still : (j : ℕ) → j ≤ at → getD lows′ (getD queue′ j 0) 0 ≡ getD lows (getD queue j 0) 0
-      low-still j h = ap (numbers lows′) (gone .kept .place j h) ∙ gone .kept .low j h
-
-      -- What is left lies no nearer than this group.
-      farther : (i : ℕ) → at + 1 ≤ i → i < end′ → getD distances (getD queue at 0) 0 ≤ getD distances′ (getD queue′ i 0) 0
-      farther i low high = omega (arith, far-still at (omega arith), gone .state .rising at i (omega (arith, low)) high)
-
-      -- What was seen of the groups before, and of this one.
-      up-to : {P : ℕ → Type 0} → ((j : ℕ) → j < at → P j) → P at → (j : ℕ) → j < at + 1 → P j
-      up-to {P} front own j h =
-          decided (ltb j at)
-          (λ t. front j (ltb-true j at t))
-          (λ t. let e : at ≡ j = omega (arith, h, ltb-false j at t) in subst P e own)
-
-      seen-still : (j : ℕ) → j < at → root ⟶ getD queue′ j 0 ∈ F →
-          (¬ (c .arrows ≡ 0)) × (c .arrows ≤ getD distances′ (getD queue′ j 0) 0) ×
-          (c .arrows ≡ getD distances′ (getD queue′ j 0) 0 → c .group ≤ getD lows′ (getD queue′ j 0) 0)
-      seen-still j h a =
-          let le : j ≤ at = omega (arith, h) in
-          let (some-lead, near, low) = s .shuts E l .seen j h (subst (λ (y : ℕ). root ⟶ y ∈ F) (gone .kept .place j le) a) in
-          (some-lead, omega (arith, near, far-still j le), (λ e. omega (arith, low-still j le, low (e ∙ far-still j le))))
-
-      shuts-unclosed : closed ≡ false → at < end → Shuts F root (at + 1) end′ (numbers distances′) (numbers lows′) (numbers queue′) c
-      shuts-unclosed f more =
+      pub goes-back : at < end → next .level < most → Ahead at next end distances lows queue
+      goes-back ahead near =
           record {
-            begun = s .shuts E l .begun;
-            way = s .shuts E l .way;
-            ahead = λ n i low high. omega (arith, farther i low high, s .shuts E l .ahead n at (omega arith) more);
-            seen = up-to seen-still (λ a. absurd (gone .unclosed f (subst (λ (y : ℕ). root ⟶ y ∈ F) (gone .kept .place at (omega arith)) a)));
+            ahead = ahead;
+            here-is = sym (ap (λ (r : Reached). r .group) read ∙ entry-is queue at (e .arrays .queue-long));
+            far = lies-at;
+            lowest =
+                ap (λ (r : Reached). r .low) read
+                ∙ entry-is lows (entryAt queue at) (e .arrays .lows-long)
+                ∙ ap (numbers lows) (entry-is queue at (e .arrays .queue-long));
+            fits = omega (arith, near, e .most-fits);
+            arrays = e .arrays;
           }
 
-      module _ (t : closed ≡ true) (ahead : at < end) {level low : ℕ} (level-is : level ≡ getD distances (getD queue at 0) 0)
-          (low-is : low ≡ getD lows (getD queue at 0) 0) (near : level ≤ limitOf c most) where
-        nonzero : ¬ (level ≡ 0)
-        nonzero z = s .stands .state E l .entries at ahead (sym level-is ∙ z)
-
-        -- Where a way round was known, it is as short.
-        as-short : ¬ (c .arrows ≡ 0) → c .arrows ≡ level
-        as-short n = omega (arith, limit-best c most n, near, level-is, s .shuts E l .ahead n at (omega arith) ahead)
-
-        own-way : Passes F level root low root
-        own-way =
-            subst (λ (z : ℕ). Passes F level root z root) (sym low-is)
-            (subst (λ (k : ℕ). Passes F k root (getD lows (getD queue at 0) 0) root) (omega (arith, level-is, nonzero))
-            (passes-step (gone .round t) (s .stands .state E l .way (getD queue at 0) (s .stands .state E l .entries at ahead))))
-
-        old-way : Passes F level root (c .group) root
-        old-way =
-            decided (eqb (c .arrows) 0)
-            (λ z. let first : root ≡ c .group = sym (s .shuts E l .begun (eqb-true (c .arrows) 0 z)) in
-            record { i = 0; j = level; to = stay first; on = subst (λ (y : ℕ). Walk F level y root) first (passes-walk own-way); whole = omega arith })
-            (λ z. let n = eqb-false (c .arrows) 0 z in subst (λ (k : ℕ). Passes F k root (c .group) root) (as-short n) (s .shuts E l .way n))
-
-        shuts-round : Shuts F root (at + 1) end′ (numbers distances′) (numbers lows′) (numbers queue′) (closing (min (c .group) low) level)
-        shuts-round =
-            record {
-              begun = λ z. absurd (nonzero z);
-              way = λ n. ⊎-elim
-                  (λ m. subst (λ (z : ℕ). Passes F level root z root) (sym m) old-way)
-                  (λ m. subst (λ (z : ℕ). Passes F level root z root) (sym m) own-way)
-                  (min-either (c .group) low);
-              ahead = λ n i low high. omega (arith, level-is, farther i low high);
-              seen = up-to
-                  (λ j h a. let (some-lead, least, lowest) = seen-still j h a in
-                  let same = as-short some-lead in
-                  (nonzero, omega (arith, least, same), (λ e. omega (arith, min-le-left (c .group) low, lowest (same ∙ e)))))
-                  (λ a. (
-                    nonzero,
-                    omega (arith, level-is, far-still at (omega arith)),
-                    (λ e. omega (arith, min-le-right (c .group) low, low-is, low-still at (omega arith))),
-                  ));
-            }
-
-    search-on : {c′ : Closing} → c′ .arrows ≤ most → c′ .group ≤ root →
-        ((E : List Edge) (l : Lists E table heads links) →
-        Shuts (among left E) root (at + 1) end′ (numbers distances′) (numbers lows′) (numbers queue′) c′) →
-        Searching root (at + 1) end′ most table heads links left distances′ lows′ queue′ c′
-    search-on few low shuts =
+    ended : ((root : ℕ) (E : List Edge) → State (among left E) root at end (numbers distances) (numbers lows) (numbers queue) →
+        (i : ℕ) → at ≤ i → i < end → most ≤ getD distances (getD queue i 0) 0) →
+        Explores most table heads links left distances₀ lows₀ queue₀ distances lows queue
+    ended bound =
         record {
-          stands = rw add-one (record { arrays = b .arrays; state = λ E l. b .gone E l .state });
-          most-fits = s .most-fits;
-          few = few;
-          low = low;
-          shuts = shuts;
+          distances-long = e .arrays .distances-long;
+          lows-long = e .arrays .lows-long;
+          queue-long = e .arrays .queue-long;
+          explored = λ root E l s.
+              let now = e .state root E l s in record { at = at; end = end; state = now; beyond = bound root E now };
         }
 
-    pub search-more : at < end → {next : Reached} → next ≡ reachedAt at distances lows queue → {limit : ℕ} → limit ≡ limitOf c most → next .level ≤ limit →
-        {c′ : Closing} → Notes c closed next c′ → Searching root (at + 1) end′ most table heads links left distances′ lows′ queue′ c′
-    search-more more {next} read e near {c′} notes = by-closed closed refl
-      where
-        within : next .level ≤ limitOf c most
-        within = omega (arith, near, e)
+    pub far-enough : at < end → {next : Reached} → next ≡ reachedAt at distances lows queue → most ≤ next .level →
+        Explores most table heads links left distances₀ lows₀ queue₀ distances lows queue
+    far-enough ahead read far = ended (λ root E s i low high. omega (arith, far, lies-at read, s .rising at i low high))
 
-        by-closed : (told : Bool) → closed ≡ told → Searching root (at + 1) end′ most table heads links left distances′ lows′ queue′ c′
-        by-closed true t =
-            let (arrows-is, group-is) = notes .round t in
-            let same : _≡_ {A = Closing} c′ (closing (min (c .group) (next .low)) (next .level)) = λ i. closing (group-is i) (arrows-is i) in
-            subst (Searching root (at + 1) end′ most table heads links left distances′ lows′ queue′) (sym same)
-            (search-on (omega (arith, within, limited)) (omega (arith, min-le-left (c .group) (next .low), s .low))
-            (λ E lists. shuts-round E lists t more (lies-at read) (low-at read) within))
-        by-closed false f =
-            subst (Searching root (at + 1) end′ most table heads links left distances′ lows′ queue′) (sym (notes .same f))
-            (search-on (s .few) (s .low) (λ E lists. shuts-unclosed E lists f more))
+    pub nothing-left : end ≤ at → Explores most table heads links left distances₀ lows₀ queue₀ distances lows queue
+    nothing-left done = ended (λ root E s i low high. absurd (omega (arith, done, low, high)))
+
+    pub exploring-less : at < end → maxItems - (at + 1) < maxItems - at
+    exploring-less h = omega (arith, h, e .arrays .fits)
+
+    pub exploring-more : {distances′ lows′ queue′ : List ℕ} {end′ : ℕ} →
+        Back at end table heads links left distances lows queue distances′ lows′ queue′ end′ →
+        Exploring most table heads links left distances₀ lows₀ queue₀ distances′ lows′ queue′ end′ (at + 1)
+    exploring-more b =
+        rw add-one (record { most-fits = e .most-fits; arrays = b .arrays; state = λ root E l s. b .gone root E l (e .state root E l s) })
 
 pub reached-is : (at : ℕ) (distances lows queue : List ℕ) {group level low : ℕ} → group ≡ entryAt queue at → level ≡ entryAt distances group →
     low ≡ entryAt lows group → _≡_ {A = Reached} (record { group = group; level = level; low = low }) (reachedAt at distances lows queue)
 reached-is at distances lows queue g l o =
     λ i. record { group = g i; level = (l ∙ ap (entryAt distances) g) i; low = (o ∙ ap (entryAt lows) g) i }
 
--- What is noted.
-module _ {best : Closing} {next : Reached} where
-  pub notes-round : {closed : Bool} → closed ≡ true → {lowest : ℕ} → lowest ≡ min (best .group) (next .low) →
-      Notes best closed next (closing lowest (next .level))
-  notes-round t e = record { round = λ r. (refl, e); same = λ f. absurd (true≢false (sym t ∙ f)) }
+-- The better of two.
+module _ {best found : Closing} where
+  pub better-none : found .arrows ≡ 0 → Better best found best
+  better-none z = record { one = inl refl; as-best = λ m y b. b; as-found = λ m y b. absurd (b .some-lead z) }
 
-  pub notes-same : {closed : Bool} → closed ≡ false → Notes best closed next best
-  notes-same f = record { round = λ t. absurd (true≢false (sym t ∙ f)); same = λ r. refl }
+  pub better-first : best .arrows ≡ 0 → Better best found found
+  better-first z = record { one = inr refl; as-best = λ m y b. absurd (b .some-lead z); as-found = λ m y b. b }
+
+  pub better-fewer : ¬ (found .arrows ≡ 0) → found .arrows < best .arrows → Better best found found
+  better-fewer n less =
+      record {
+        one = inr refl;
+        as-best = λ m y b. record { some-lead = n; fewer = omega (arith, less, b .fewer); lower = λ e. absurd (omega (arith, e, less, b .fewer)) };
+        as-found = λ m y b. b;
+      }
+
+  pub better-more : ¬ (best .arrows ≡ 0) → best .arrows < found .arrows → Better best found best
+  better-more n less =
+      record {
+        one = inl refl;
+        as-best = λ m y b. b;
+        as-found = λ m y b. record { some-lead = n; fewer = omega (arith, less, b .fewer); lower = λ e. absurd (omega (arith, e, less, b .fewer)) };
+      }
+
+  pub better-lower : ¬ (best .arrows ≡ 0) → found .arrows ≤ best .arrows → best .arrows ≤ found .arrows → {group : ℕ} →
+      group ≡ min (best .group) (found .group) → Better best found (closing group (best .arrows))
+  better-lower n up down {group} e =
+      let same : best .arrows ≡ found .arrows = omega (arith, up, down) in
+      record {
+        one = ⊎-elim
+            (λ m. inl (λ i. closing ((e ∙ m) i) (best .arrows)))
+            (λ m. inr (λ i. closing ((e ∙ m) i) (same i)))
+            (min-either (best .group) (found .group));
+        as-best = λ m y b. record {
+          some-lead = n;
+          fewer = b .fewer;
+          lower = λ f. omega (arith, e, min-le-left (best .group) (found .group), b .lower f);
+        };
+        as-found = λ m y b. record {
+          some-lead = n;
+          fewer = omega (arith, same, b .fewer);
+          lower = λ f. omega (arith, e, min-le-right (best .group) (found .group), b .lower (sym same ∙ f));
+        };
+      }
+
+-- The loop over the arrows from the root: of those up to here the best.
+pub record Closing-of (root most : ℕ) (table : Table) (onward left distances lows : List ℕ) (c : Closing) (member : ℕ) : Type 0 where
+  pub few : c .arrows ≤ most
+  pub low : c .group ≤ root
+  pub one : ¬ (c .arrows ≡ 0) → (k : ℕ) × (k ∈ members onward (entryAt left root)) × (c .arrows ≡ entryAt distances (targetAt table k)) ×
+      (c .group ≡ min root (entryAt lows (targetAt table k)))
+  pub within : (k : ℕ) → k ∈ members onward member → k ∈ members onward (entryAt left root)
+  pub seen : (k : ℕ) → k ∈ members onward (entryAt left root) → (k ∈ members onward member) ⊎
+      (¬ (entryAt distances (targetAt table k) ≡ 0) → entryAt distances (targetAt table k) ≤ most →
+      Beats c (entryAt distances (targetAt table k)) (min root (entryAt lows (targetAt table k))))
+
+module _ {root most : ℕ} {table : Table} {onward left distances lows : List ℕ} where
+  pub closing-first : {member : ℕ} → member ≡ entryAt left root → Closing-of root most table onward left distances lows (closing root 0) member
+  closing-first e =
+      record {
+        few = omega arith;
+        low = omega arith;
+        one = λ n. absurd (n refl);
+        within = λ k m. subst (λ (x : ℕ). k ∈ members onward x) e m;
+        seen = λ k m. inl (subst (λ (x : ℕ). k ∈ members onward x) (sym e) m);
+      }
+
+  module _ {c : Closing} {member : ℕ} (o : Closing-of root most table onward left distances lows c member) where
+    pub closing-more : 0 < member → {to next : ℕ} → to ≡ targetAt table (member - 1) → next ≡ olderIn onward member → {found : Closing} →
+        ClosesBy root to most distances lows found → {c′ : Closing} → Better c found c′ →
+        Closing-of root most table onward left distances lows c′ next
+    closing-more more {to} {next} read on {found} by {c′} better =
+        record {
+          few = ⊎-elim
+              (λ e. omega (arith, ap (λ (d : Closing). d .arrows) e, o .few))
+              (λ e. omega (arith, ap (λ (d : Closing). d .arrows) e, found-few))
+              (better .one);
+          low = ⊎-elim
+              (λ e. omega (arith, ap (λ (d : Closing). d .group) e, o .low))
+              (λ e. omega (arith, ap (λ (d : Closing). d .group) e, by .group, min-le-left root (entryAt lows to)))
+              (better .one);
+          one = λ n. ⊎-elim
+              (λ e. subst Told-by (sym e) (o .one (λ z. n (ap (λ (d : Closing). d .arrows) e ∙ z))))
+              (λ e. subst Told-by (sym e) (own (λ z. n (ap (λ (d : Closing). d .arrows) e ∙ z))))
+              (better .one);
+          within = λ k m. o .within k (subst (λ (z : List ℕ). k ∈ z) (sym first) (there (subst (λ (x : ℕ). k ∈ members onward x) on m)));
+          seen = λ k m. ⊎-elim
+              (λ i. ⊎-elim
+              (λ e. inr (subst (λ (j : ℕ). Beaten (targetAt table j)) (sym e) (subst Beaten read own-beaten)))
+              (λ j. inl (subst (λ (x : ℕ). k ∈ members onward x) (sym on) j))
+              (List·Memᴰ·cases-cons (subst (λ (z : List ℕ). k ∈ z) first i)))
+              (λ b. inr (λ n near. better .as-best _ _ (b n near)))
+              (o .seen k m);
+        }
+      where
+        first : members onward member ≡ (member - 1) ∷ members onward (olderIn onward member)
+        first = members-first onward member more
+
+        Told-by : Closing → Type 0
+        Told-by d = (k : ℕ) × (k ∈ members onward (entryAt left root)) × (d .arrows ≡ entryAt distances (targetAt table k)) ×
+            (d .group ≡ min root (entryAt lows (targetAt table k)))
+
+        Beaten : ℕ → Type 0
+        Beaten h = ¬ (entryAt distances h ≡ 0) → entryAt distances h ≤ most → Beats c′ (entryAt distances h) (min root (entryAt lows h))
+
+        found-few : found .arrows ≤ most
+        found-few =
+            decided (ltb most (entryAt distances to))
+            (λ t. omega (arith, by .far (ltb-true most (entryAt distances to) t)))
+            (λ t. let h : entryAt distances to ≤ most = omega (arith, ltb-false most (entryAt distances to) t) in omega (arith, by .near h, h))
+
+        -- What was found comes from this arrow, if anything was.
+        near : ¬ (found .arrows ≡ 0) → found .arrows ≡ entryAt distances to
+        near n =
+            decided (ltb most (entryAt distances to))
+            (λ t. absurd (n (by .far (ltb-true most (entryAt distances to) t))))
+            (λ t. by .near (omega (arith, ltb-false most (entryAt distances to) t)))
+
+        own : ¬ (found .arrows ≡ 0) → Told-by found
+        own n = (
+          member - 1,
+          o .within (member - 1) (subst (λ (z : List ℕ). member - 1 ∈ z) (sym first) (here refl)),
+          near n ∙ ap (entryAt distances) read,
+          by .group ∙ ap (λ h. min root (entryAt lows h)) read,
+        )
+
+        own-beaten : Beaten to
+        own-beaten n few =
+            let is = by .near few in
+            better .as-found _ _ (record { some-lead = λ z. n (sym is ∙ z); fewer = omega (arith, is); lower = λ e. omega (arith, by .group) })
+
+    pub closing-all : member ≤ 0 → Closes root most table onward left distances lows c
+    closing-all done =
+        let z : member ≡ 0 = omega (arith, done) in
+        record {
+          few = o .few;
+          low = o .low;
+          one = o .one;
+          beats = λ k m. ⊎-elim
+              (λ i. absurd (List·Memᴰ·not-nil (subst (λ (s : List ℕ). k ∈ s) (ap (members onward) z ∙ no-members onward) i)))
+              (λ b. b)
+              (o .seen k m);
+        }
+
+-- What the search tells, from the groups that were met and the best of the arrows from the root.
+module _ (root most : ℕ) (table : Table) (onward left : List ℕ) (E : List Edge) (o : Onward E table onward left) (distances lows queue : List ℕ)
+    (distances-long : length distances ≡ maxItems) (lows-long : length lows ≡ maxItems)
+    (x : Explored (among left E) root most (numbers distances) (numbers lows) (numbers queue)) (c : Closing)
+    (k : Closes root most table onward left distances lows c) where
+  abbrev F : List Edge
+  F = among left E
+
+  abbrev D : ℕ → ℕ
+  D = numbers distances
+
+  abbrev L : ℕ → ℕ
+  L = numbers lows
+
+  far-is : (h : ℕ) → entryAt distances h ≡ D h
+  far-is h = entry-is distances h distances-long
+
+  low-is : (h : ℕ) → entryAt lows h ≡ L h
+  low-is h = entry-is lows h lows-long
+
+  beyond : {m : ℕ} → m < most → Beyond F root (x .at) (x .end) D L (numbers queue) (x .state) m
+  beyond h i low b = omega (arith, h, x .beyond i low b)
+
+  complete : (m h : ℕ) → m < most → Walk F m h root → (¬ (D h ≡ 0)) × (D h ≤ m + 1)
+  complete m h few w = state-complete F root (x .at) (x .end) D L (numbers queue) (x .state) m h (beyond few) w
+
+  -- No way that short passes a group lower than the one noted.
+  lowest-on : (i j h z : ℕ) → i + j < most → D h ≡ i + j + 1 → Walk F i h z → Walk F j z root → L h ≤ z
+  lowest-on i j h z few d w v = state-lowest F root (x .at) (x .end) D L (numbers queue) (x .state) i j h z (beyond few) d w v
+
+  -- The lowest group noted is no higher than the root.
+  under-root : (h : ℕ) → ¬ (D h ≡ 0) → D h ≤ most → min root (L h) ≡ L h
+  under-root h n few =
+      let w = passes-walk (x .state .way h n) in
+      let le : L h ≤ root = lowest-on (D h - 1) 0 h root (omega (arith, n, few)) (omega (arith, n)) w (stay refl) in
+      ⊎-elim (λ m. omega (arith, m, le, min-le-right root (L h))) (λ m. m) (min-either root (L h))
+
+  -- An arrow from the root to a group from which so few arrows lead back: the best is as good.
+  closed-by : {m h : ℕ} → suc m ≤ most → root ⟶ h ∈ F → Walk F m h root → Beats c (D h) (L h) × (D h ≤ suc m)
+  closed-by {m} {h} few a w =
+      let (plain, root-left) = among-within left E a in
+      let (n, le) = complete m h (omega (arith, few)) w in
+      let (i, in-list, to) = o .rest root h plain root-left (left-there m w) in
+      let e : entryAt distances (targetAt table i) ≡ D h = ap (entryAt distances) to ∙ far-is h in
+      let near : D h ≤ suc m = omega (arith, le) in
+      let b = k .beats i in-list (λ z. n (sym e ∙ z)) (omega (arith, e, near, few)) in
+      let l : min root (entryAt lows (targetAt table i)) ≡ L h =
+      ap (λ y. min root (entryAt lows y)) to ∙ ap (min root) (low-is h) ∙ under-root h n (omega (arith, near, few)) in
+      (subst (λ (j : ℕ). Beats c j (L h)) e (subst (Beats c (entryAt distances (targetAt table i))) l b), near)
+    where
+      left-there : (m : ℕ) → Walk F m h root → ¬ (entryAt left h ≡ 0)
+      left-there zero (stay e) z = among-within left E a .1 (ap (entryAt left) (sym e) ∙ z)
+      left-there (suc m) (step b w) z = among-within left E b .1 z
+
+  pub told : Told F root most c
+  told = record { none = none-there; way = way; least = least; lowest = λ n z p. lowest n z (p .i) (p .j) (p .to) (p .on) (p .whole) }
+    where
+      none-there : c .arrows ≡ 0 → (m : ℕ) → 1 ≤ m → m ≤ most → ¬ Walk F m root root
+      none-there z zero one few w = omega (arith, one)
+      none-there z (suc m) one few (step a w) = closed-by few a w .0 .some-lead z
+
+      way : ¬ (c .arrows ≡ 0) → Passes F (c .arrows) root (c .group) root
+      way n =
+          let (i, in-list, arrows-is, group-is) = k .one n in
+          let h : ℕ = targetAt table i in
+          let d : c .arrows ≡ D h = arrows-is ∙ far-is h in
+          let met : ¬ (D h ≡ 0) = λ z. n (d ∙ z) in
+          let g : c .group ≡ L h = group-is ∙ ap (min root) (low-is h) ∙ under-root h met (omega (arith, d, k .few)) in
+          let root-left : ¬ (entryAt left root ≡ 0) =
+          λ z. List·Memᴰ·not-nil (subst (λ (s : List ℕ). i ∈ s) (ap (members onward) z ∙ no-members onward) in-list) in
+          let round = passes-step (among-keeps left E (o .sound root i in-list) root-left) (x .state .way h met) in
+          subst (λ (z : ℕ). Passes F (c .arrows) root z root) (sym g)
+          (subst (λ (j : ℕ). Passes F j root (L h) root) (omega (arith, met, d)) round)
+
+      least : ¬ (c .arrows ≡ 0) → (m : ℕ) → 1 ≤ m → Walk F m root root → c .arrows ≤ m
+      least n zero one w = absurd (omega (arith, one))
+      least n (suc m) one (step a w) =
+          decided (ltb (suc m) (c .arrows))
+          (λ t. let (b, le) = closed-by (omega (arith, ltb-true (suc m) (c .arrows) t, k .few)) a w in omega (arith, b .fewer, le))
+          (λ t. omega (arith, ltb-false (suc m) (c .arrows) t))
+
+      lowest : ¬ (c .arrows ≡ 0) → (z i j : ℕ) → Walk F i root z → Walk F j z root → i + j ≡ c .arrows → c .group ≤ z
+      lowest n z zero j (stay e) v whole = omega (arith, e, k .low)
+      lowest n z (suc i) j (step {h = h} a w) v whole =
+          let (b, le) = closed-by {m = i + j} (omega (arith, whole, k .few)) a (walk-join w v) in
+          let lies : D h ≡ i + j + 1 = omega (arith, b .fewer, le, whole) in
+          omega (arith, b .lower (omega (arith, lies, whole)), lowest-on i j h z (omega (arith, whole, k .few)) lies w v)
+
+  pub lying : ¬ (c .arrows ≡ 0) → Distances F root (c .arrows) D
+  lying n =
+      record {
+        first = x .state .first;
+        sound = λ y met. passes-walk (x .state .way y met);
+        complete = λ m y few w. complete m y (omega (arith, few, k .few)) w;
+      }
+
+pub searched : {root most : ℕ} {table : Table} {heads links onward left lows queue : List ℕ} → Ready root most lows queue →
+    {distances′ lows′ queue′ : List ℕ} →
+    Explores most table heads links left (set (replicate maxItems 0) root 1) (set lows root root) (set queue 0 root) distances′ lows′ queue′ →
+    {c : Closing} → Closes root most table onward left distances′ lows′ c →
+    Searched root most table heads links onward left distances′ lows′ queue′ c
+searched {root} {most} {table} {onward = onward} {left = left} r {distances′} {lows′} {queue′} e {c} k =
+    record {
+      distances-long = e .distances-long;
+      lows-long = e .lows-long;
+      queue-long = e .queue-long;
+      few = k .few;
+      low = k .low;
+      told = λ E l o.
+          told root most table onward left E o distances′ lows′ queue′ (e .distances-long) (e .lows-long)
+          (e .explored root E l (root-met r (among left E))) c k;
+      far = λ n E l o.
+          lying root most table onward left E o distances′ lows′ queue′ (e .distances-long) (e .lows-long)
+          (e .explored root E l (root-met r (among left E))) c k n;
+    }

@@ -1,15 +1,14 @@
 -- The look from each group in turn, the highest first. Every way round is left, or beaten by the best so far: the ways round through a group are looked
 -- at before it is taken out. At the end none is left: a group is taken out, or every arrow into it rises, and along rising arrows no way leads back.
-use Prim.Native.Nat.{ℕ, _-_, _≤_, _<_, min}
+use Prim.Native.Nat.{ℕ, _-_, _≤_, _<_}
 use mathlib.Core.Path.{_≡_, refl, sym, ap, _∙_, subst}
 use mathlib.Core.Bool.{Bool, true, false, true≢false}
 use mathlib.Core.List.{List, List·Memᴰ·not-nil, List·Memᴰ·cases-cons}
 use mathlib.Core.Logic.{_⊎_, inl, inr, ⊎-elim}
-use native.Mathlib.Nat.{min-le-left, min-le-right}
 use native.Mathlib.Omega.{arith}
 use lib.Dec.{eqb, leb}
 use lib.ListN.{length}
-use borrow.Author.Tests.{eqb-true, eqb-false, leb-true, leb-false}
+use borrow.Author.Tests.{eqb-true, eqb-false, eq-eqb, ne-eqb, leb-true, leb-false}
 use Rattle.model.specs.Limits.{maxItems}
 use Rattle.model.specs.HappensBefore.{Edge}
 use Rattle.model.proofs.Laws.{decided}
@@ -21,13 +20,11 @@ use Rattle.graph.specs.Edges.{sourceAt}
 use Rattle.ordering.proofs.Edges.{_⟶_}
 use Rattle.ordering.proofs.Lengths.{Walk}
 use Rattle.ordering.proofs.Passing.{Passes, passes-walk, turned, walk-more, rising-open}
-use Rattle.ordering.proofs.WalkBack.{min-either}
 use Rattle.rings.specs.declared.searches.Closing.{Closing}
-use Rattle.rings.specs.Searches.{entryAt, Lists, Onward, Indexed, among, Ready, limitOf, Told, Searched}
+use Rattle.rings.specs.Searches.{entryAt, Lists, Onward, Indexed, among, Beats, Better, Ready, Told, Searched}
 use Rattle.rings.specs.Removing.{Removable, TakenOut}
-use Rattle.rings.specs.Roots.{Entered, Beats, Better, Grown, Rooted, Chosen}
+use Rattle.rings.specs.Roots.{Entered, limitOf, Grown, Rooted, Chosen}
 use Rattle.rings.proofs.Left.{among-keeps, among-within}
-use Rattle.rings.proofs.Ending.{limit-none, limit-best}
 
 -- The arrows of a list that were looked at come from below.
 pub record Looked (root : ℕ) (table : Table) (heads links : List ℕ) (member : ℕ) : Type 0 where
@@ -66,50 +63,15 @@ module _ {root : ℕ} {table : Table} {heads links : List ℕ} where
   pub looked-found : Entered root table heads links true
   looked-found = record { none-above = λ f. absurd (true≢false f) }
 
--- The better of two.
-module _ {best found : Closing} where
-  pub better-none : found .arrows ≡ 0 → Better best found best
-  better-none z = record { one = inl refl; as-best = λ m y b. b; as-found = λ m y b. absurd (b .some-lead z) }
+-- How many arrows are looked for next.
+module _ (best : Closing) (most : ℕ) where
+  pub limit-none : best .arrows ≡ 0 → most ≡ limitOf best most
+  unfolding limitOf
+  limit-none z = rw (eq-eqb (best .arrows) 0 z)
 
-  pub better-first : best .arrows ≡ 0 → Better best found found
-  better-first z = record { one = inr refl; as-best = λ m y b. absurd (b .some-lead z); as-found = λ m y b. b }
-
-  pub better-fewer : ¬ (found .arrows ≡ 0) → found .arrows < best .arrows → Better best found found
-  better-fewer n less =
-      record {
-        one = inr refl;
-        as-best = λ m y b. record { some-lead = n; fewer = omega (arith, less, b .fewer); lower = λ e. absurd (omega (arith, e, less, b .fewer)) };
-        as-found = λ m y b. b;
-      }
-
-  pub better-more : ¬ (best .arrows ≡ 0) → best .arrows < found .arrows → Better best found best
-  better-more n less =
-      record {
-        one = inl refl;
-        as-best = λ m y b. b;
-        as-found = λ m y b. record { some-lead = n; fewer = omega (arith, less, b .fewer); lower = λ e. absurd (omega (arith, e, less, b .fewer)) };
-      }
-
-  pub better-lower : ¬ (best .arrows ≡ 0) → found .arrows ≤ best .arrows → best .arrows ≤ found .arrows → {group : ℕ} →
-      group ≡ min (best .group) (found .group) → Better best found (record { group = group; arrows = best .arrows })
-  better-lower n up down {group} e =
-      let same : best .arrows ≡ found .arrows = omega (arith, up, down) in
-      record {
-        one = ⊎-elim
-            (λ m. inl (λ i. record { group = (e ∙ m) i; arrows = best .arrows }))
-            (λ m. inr (λ i. record { group = (e ∙ m) i; arrows = same i }))
-            (min-either (best .group) (found .group));
-        as-best = λ m y b. record {
-          some-lead = n;
-          fewer = b .fewer;
-          lower = λ f. omega (arith, e, min-le-left (best .group) (found .group), b .lower f);
-        };
-        as-found = λ m y b. record {
-          some-lead = n;
-          fewer = omega (arith, same, b .fewer);
-          lower = λ f. omega (arith, e, min-le-right (best .group) (found .group), b .lower (sym same ∙ f));
-        };
-      }
+  pub limit-best : ¬ (best .arrows ≡ 0) → best .arrows ≡ limitOf best most
+  unfolding limitOf
+  limit-best n = rw (ne-eqb (best .arrows) 0 n)
 
 -- The groups from `left` on were looked from: each is taken out, or entered only from below. Every way round is left or beaten.
 pub record Settled (E : List Edge) (table : Table) (onward cursors : List ℕ) (groups most left : ℕ) (best : Closing) : Type 0 where
@@ -208,15 +170,15 @@ module _ {groups most : ℕ} {table : Table} {heads links tails onward : List �
           }
 
       module _ {limit : ℕ} (limited : limit ≡ limitOf best most) {distances lows′ queue′ : List ℕ} {found : Closing}
-          (s : Searched root limit table heads links cursors distances lows′ queue′ found) where
+          (s : Searched root limit table heads links onward cursors distances lows′ queue′ found) where
         pub best-removable : Removable root cursors queue′
         best-removable = record { cursors-long = b .cursors-long; queue-long = s .queue-long; inside = omega (arith, more, b .within, b .fits) }
 
         -- Every way round through the group is beaten by what was found from it, or by the best so far.
-        beaten : (E : List Edge) → Lists E table heads links → (m z : ℕ) → 1 ≤ m → m ≤ most → Passes (among cursors E) m z root z →
+        beaten : (E : List Edge) → Lists E table heads links → Onward E table onward cursors → (m z : ℕ) → 1 ≤ m → m ≤ most → Passes (among cursors E) m z root z →
             Beats found m z ⊎ Beats best m z
         unfolding limitOf
-        beaten E l m z one few p =
+        beaten E l o m z one few p =
             decided (eqb (found .arrows) 0)
             (λ t. let none : found .arrows ≡ 0 = eqb-true (found .arrows) 0 t in
             decided (leb m limit)
@@ -234,7 +196,7 @@ module _ {groups most : ℕ} {table : Table} {heads links tails onward : List �
             }))
           where
             told : Told (among cursors E) root limit found
-            told = s .told E l
+            told = s .told E l o
 
         module _ {best′ : Closing} (better : Better best found best′) {cursors′ queue″ : List ℕ}
             (t : TakenOut root table onward cursors cursors′ queue″) where
@@ -246,7 +208,7 @@ module _ {groups most : ℕ} {table : Table} {heads links tails onward : List �
               (b .settled E i .walk (λ z. n (ap (λ (c : Closing). c .arrows) e ∙ z))))
               (λ e. let found-some : ¬ (found .arrows ≡ 0) = λ z. n (ap (λ (c : Closing). c .arrows) e ∙ z) in
               subst (λ (c : Closing). Walk E (c .arrows) (c .group) (c .group)) (sym e)
-              (walk-more (λ d m. among-within cursors E m .0) (passes-walk (turned (s .told E (i .lists) .way found-some)))))
+              (walk-more (λ d m. among-within cursors E m .0) (passes-walk (turned (s .told E (i .lists) (b .settled E i .onwards) .way found-some)))))
               (better .one)
 
           settled-out : (E : List Edge) (i : Indexed groups E table heads links tails onward) → Settled E table onward cursors′ groups most (left - 1) best′
@@ -258,7 +220,7 @@ module _ {groups most : ℕ} {table : Table} {heads links tails onward : List �
                 walk = walk-there E i;
                 kept = λ m z one few w. ⊎-elim
                     (λ v. ⊎-elim
-                    (λ p. inr (⊎-elim (better .as-found m z) (better .as-best m z) (beaten E (i .lists) m z one few p)))
+                    (λ p. inr (⊎-elim (better .as-found m z) (better .as-best m z) (beaten E (i .lists) (before .onwards) m z one few p)))
                     (λ u. inl u)
                     (out .walks m z one v))
                     (λ k. inr (better .as-best m z k))

@@ -15,7 +15,13 @@ use Rattle.ordering.proofs.Edges.{_⟶_}
 use Rattle.ordering.proofs.Lengths.{Walk, stay, step, walk-join}
 use Rattle.ordering.proofs.Passing.{Passes, passes-walk, passes-step}
 use Rattle.ordering.proofs.WalkBack.{min-either}
-use Rattle.rings.specs.Searches.{State, Kept}
+use Rattle.rings.specs.Searches.{State}
+
+-- What stood in the queue up to a place stands there still, as far and with the same lowest group.
+pub record Kept (at : ℕ) (D L Q D′ L′ Q′ : ℕ → ℕ) : Type 0 where
+  pub place : (j : ℕ) → j ≤ at → Q′ j ≡ Q j
+  pub lies : (j : ℕ) → j ≤ at → D′ (Q j) ≡ D (Q j)
+  pub low : (j : ℕ) → j ≤ at → L′ (Q j) ≡ L (Q j)
 
 module _ (F : List Edge) (root at end : ℕ) (D L Q : ℕ → ℕ) (s : State F root at end D L Q) where
   -- The way from a group, by an arrow to the one that is gone back from, passes the lower of both.

@@ -179,7 +179,11 @@ module _ (groups : ℕ) (waiting : List ℕ) (table : Table) where
                   (k, of-member (targetAt table) into k to (omega (arith, high, fits)) (omega (arith, b, e)) c, sym from);
               below = λ x h m. let (k, b, c, from, to, low, high) = found m in (omega (arith, low, fits), omega (arith, high, fits));
             };
-        onwards = record { rest = λ x h m p q. let (k, i, t) = by-source x h m in (k, i, t) };
+        onwards =
+            record {
+              sound = λ x k m. let (b, c, q) = member-of (sourceAt table) out x k m in counted-in limit k (omega (arith, b, e)) c (sym q) refl;
+              rest = λ x h m p q. by-source x h m;
+            };
         starts = λ x h m z.
             let (k, i, t) = by-source x h m in
             List·Memᴰ·not-nil (subst (λ (l : List ℕ). k ∈ l) (ap (members onward) z ∙ no-members onward) i);

@@ -11,7 +11,7 @@ use borrow.Author.Tests.{eqb-true, eqb-false}
 use Rattle.model.specs.Limits.{maxItems}
 use Rattle.model.specs.HappensBefore.{Edge}
 use Rattle.model.proofs.Laws.{decided}
-use Rattle.model.proofs.Lists.{_∈_}
+use Rattle.model.proofs.Lists.{_∈_, there}
 use Rattle.memory.specs.Tables.{Table}
 use Rattle.chains.specs.Chains.{members, olderIn}
 use Rattle.chains.proofs.Chains.{no-members, members-first}
@@ -24,12 +24,13 @@ use Rattle.rings.proofs.Left.{entry-is, entry-set, entry-other, among-k
 -- The members up to the next lead to groups that are taken out.
 module _ {table : Table} {onward cursors : List ℕ} {member : ℕ} where
   pub left-begins : FirstLeft table onward cursors member member
-  left-begins = record { rest = λ k m. inl m }
+  left-begins = record { within = λ k m. m; rest = λ k m. inl m }
 
   pub left-more : {next : ℕ} → FirstLeft table onward cursors member next → 0 < next → {to cursor after : ℕ} → to ≡ targetAt table (next - 1) →
       cursor ≡ entryAt cursors to → cursor ≤ 0 → after ≡ olderIn onward next → FirstLeft table onward cursors member after
   left-more {next} f more {to} {cursor} {after} read looked gone on =
       record {
+        within = λ k m. f .within k (subst (λ (z : List ℕ). k ∈ z) (sym (members-first onward next more)) (there (subst (λ (x : ℕ). k ∈ members onward x) on m)));
         rest = λ k m. ⊎-elim
             (λ i. ⊎-elim
             (λ e. inr (omega (arith, ap (λ j. entryAt cursors (targetAt table j)) e, ap (entryAt cursors) read, looked, gone)))
@@ -77,6 +78,11 @@ module _ (E : List Edge) (table : Table) (onward cursors : List ℕ) (long : len
       record {
         onwards =
             record {
+              sound = λ x k m. decided (eqb x from)
+                  (λ t. let e : x ≡ from = eqb-true x from t in
+                  o .sound x k (subst (λ (y : ℕ). k ∈ members onward (entryAt cursors y)) (sym e)
+                  (moved .within k (subst (λ (y : ℕ). k ∈ members onward y) (ap (entryAt after) e ∙ own) m))))
+                  (λ t. o .sound x k (subst (λ (y : ℕ). k ∈ members onward y) (other x (eqb-false x from t)) m));
               rest = λ x h a n l.
                   let (k, i, to) = o .rest x h a (left-before x n) (left-before h l) in
                   decided (eqb x from)
@@ -179,6 +185,10 @@ module _ {group : ℕ} {table : Table} {onward cursors : List ℕ} where
       record {
         onwards =
             record {
+              sound = λ x k m. decided (eqb x group)
+                  (λ t. absurd (List·Memᴰ·not-nil (subst (λ (z : List ℕ). k ∈ z)
+                  (ap (λ y. members onward (entryAt (set cursors group 0) y)) (eqb-true x group t) ∙ ap (members onward) out ∙ no-members onward) m)))
+                  (λ t. o .sound x k (subst (λ (y : ℕ). k ∈ members onward y) (entry-other cursors group 0 long x (eqb-false x group t)) m));
               rest = λ x h a n l.
                   let (k, i, to) = o .rest x h a (before x n) (before h l) in
                   (k, subst (λ (y : ℕ). k ∈ members onward y) (sym (other x n)) i, to);

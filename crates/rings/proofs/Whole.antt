@@ -72,7 +72,7 @@ module _ (groups : ℕ) (waiting : List ℕ) (table : Table) (count : ℕ) (fits
 
   module _ {heads links tails onward queue queue′ lows lows′ distances distances′ : List ℕ} (next : List ℕ) {best round : Root}
       (indexed : Indexed groups E table heads links tails onward) (chosen : Chosen groups maxItems table heads links tails onward lows queue best)
-      (searched : Searched (best .group) (best .arrows) table heads links tails distances lows′ queue′ round)
+      (searched : Searched (best .group) (best .arrows) table heads links onward tails distances lows′ queue′ round)
       (marked : distances′ ≡ set distances (best .group) (round .arrows + 1)) (nexts : Nexts E (entryAt distances′) (entryAt next)) where
     -- All groups are left.
     all-left : among tails E ≡ E
@@ -85,7 +85,7 @@ module _ (groups : ℕ) (waiting : List ℕ) (table : Table) (count : ℕ) (fits
     choice = chosen .choice E indexed
 
     told : Told E (best .group) (best .arrows) round
-    told = subst (λ (F : List Edge). Told F (best .group) (best .arrows) round) all-left (searched .told E (indexed .lists))
+    told = subst (λ (F : List Edge). Told F (best .group) (best .arrows) round) all-left (searched .told E (indexed .lists) (indexed .onwards))
 
     no-ring : best .arrows ≡ 0 → followed (round .arrows) (best .group) (entryAt next) ≡ ring G E
     unfolding followed
@@ -146,7 +146,7 @@ module _ (groups : ℕ) (waiting : List ℕ) (table : Table) (count : ℕ) (fits
             entry-is distances′ x long ∙ ap (λ l. getD l x 0) marked ∙ getD-set-other distances (best .group) x (round .arrows + 1) 0 k
 
         far : Distances E (best .group) (round .arrows) (numbers distances)
-        far = subst (λ (F : List Edge). Distances F (best .group) (round .arrows) (numbers distances)) all-left (searched .far nonzero E (indexed .lists))
+        far = subst (λ (F : List Edge). Distances F (best .group) (round .arrows) (numbers distances)) all-left (searched .far nonzero E (indexed .lists) (indexed .onwards))
 
         go : (k : ℕ) → best .arrows ≡ suc k → followed (round .arrows) (best .group) (entryAt next) ≡ ring G E
         go k e =
@@ -169,7 +169,7 @@ pub answer : (groups : ℕ) (waiting : List ℕ) (table : Table) (count : ℕ) {
     {heads links tails onward queue queue′ lows lows′ distances distances′ : List ℕ} (next : List ℕ) {best round : Root} →
     Indexed limit (counted limit waiting (edgesIn count table)) table heads links tails onward →
     Chosen limit maxItems table heads links tails onward lows queue best →
-    Searched (best .group) (best .arrows) table heads links tails distances lows′ queue′ round →
+    Searched (best .group) (best .arrows) table heads links onward tails distances lows′ queue′ round →
     distances′ ≡ set distances (best .group) (round .arrows + 1) →
     Nexts (counted limit waiting (edgesIn count table)) (entryAt distances′) (entryAt next) →
     {f : Found} → f ≡ foundAs (followed (round .arrows) (best .group) (entryAt next)) →

@@ -16,6 +16,7 @@ use Rattle.rings.specs.Searches.{entryAt, Onward, among}
 
 -- Of a list from one member on, the members before another lead to groups that are taken out.
 pub record FirstLeft (table : Table) (onward cursors : List ℕ) (member next : ℕ) : Type 0 where
+  pub within : (k : ℕ) → k ∈ members onward next → k ∈ members onward member
   pub rest : (k : ℕ) → k ∈ members onward member → (k ∈ members onward next) ⊎ (entryAt cursors (targetAt table k) ≡ 0)
 
 -- Arrays that have an entry for each group, and so many groups in the queue.

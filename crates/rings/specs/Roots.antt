@@ -3,32 +3,25 @@ use Prim.Native.Nat.{ℕ, _≤_, _<_}
 use mathlib.Core.Path.{_≡_}
 use mathlib.Core.Bool.{Bool, false}
 use mathlib.Core.List.{List}
-use mathlib.Core.Logic.{_⊎_}
+use lib.Dec.{eqb}
 use lib.ListN.{length}
 use Rattle.model.specs.Limits.{maxItems}
+use Rattle.model.specs.Choice.{when}
 use Rattle.model.specs.HappensBefore.{Edge}
 use Rattle.model.proofs.Lists.{_∈_}
 use Rattle.memory.specs.Tables.{Table}
 use Rattle.ordering.proofs.Edges.{_⟶_}
 use Rattle.ordering.proofs.Lengths.{Walk}
 use Rattle.rings.specs.declared.searches.Closing.{Closing}
-use Rattle.rings.specs.Searches.{Lists, Indexed}
+use Rattle.rings.specs.Searches.{Lists, Indexed, Beats}
 
 -- What a look at the arrows into a group tells: where none is told, all come from groups below it.
 pub record Entered (root : ℕ) (table : Table) (heads links : List ℕ) (told : Bool) : Type 0 where
   pub none-above : told ≡ false → (E : List Edge) → Lists E table heads links → (x : ℕ) → x ⟶ root ∈ E → x < root
 
--- So many arrows lead back to this group; to a group z not fewer than m do, and if as many, it is no higher than z.
-pub record Beats (c : Closing) (m z : ℕ) : Type 0 where
-  pub some-lead : ¬ (c .arrows ≡ 0)
-  pub fewer : c .arrows ≤ m
-  pub lower : c .arrows ≡ m → c .group ≤ z
-
--- One of two that beats what either of them beats.
-pub record Better (best found c : Closing) : Type 0 where
-  pub one : (_≡_ {A = Closing} c best) ⊎ (_≡_ {A = Closing} c found)
-  pub as-best : (m z : ℕ) → Beats best m z → Beats c m z
-  pub as-found : (m z : ℕ) → Beats found m z → Beats c m z
+-- As many arrows as lead back to the best group so far; if there is none, as many as are looked for.
+unfoldable pub limitOf : (best : Closing) → (most : ℕ) → ℕ
+limitOf best most = when (eqb (best .arrows) 0) (λ _. most) (λ _. best .arrows)
 
 -- More arrows, up to as many as there may be.
 pub record Grown (most more : ℕ) : Type 0 where

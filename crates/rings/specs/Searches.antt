@@ -2,7 +2,7 @@
 -- which order, how many arrows lead from each to the root, and the lowest group on a way that short.
 use Prim.Native.Nat.{ℕ, suc, _+_, _-_, _≤_, _<_, min}
 use mathlib.Core.Path.{_≡_}
-use mathlib.Core.Bool.{Bool, true, false, not}
+use mathlib.Core.Bool.{not}
 use mathlib.Core.List.{List}
 use mathlib.Core.Logic.{_⊎_}
 use lib.Dec.{eqb, ltb}
@@ -18,7 +18,6 @@ use Rattle.ordering.proofs.Edges.{_⟶_}
 use Rattle.ordering.proofs.Lengths.{Walk}
 use Rattle.ordering.proofs.Passing.{Passes}
 use Rattle.rings.specs.declared.searches.Closing.{Closing}
-use Rattle.rings.specs.declared.searches.Met.{Met}
 use Rattle.rings.specs.declared.searches.Reached.{Reached}
 
 -- An entry of an array; 0 outside it.
@@ -31,8 +30,9 @@ pub record Lists (E : List Edge) (table : Table) (heads links : List ℕ) : Type
   pub complete : (x h : ℕ) → x ⟶ h ∈ E → (k : ℕ) × (k ∈ members links (entryAt heads h)) × (sourceAt table k ≡ x)
   pub below : (x h : ℕ) → x ⟶ h ∈ E → (x < maxItems) × (h < maxItems)
 
--- A group is left where its cursor is not 0. From the cursor on its list by source has every arrow to a group that is left.
+-- A group is left where its cursor is not 0. From the cursor on its list by source has arrows from it alone, and every arrow to a group that is left.
 pub record Onward (E : List Edge) (table : Table) (onward cursors : List ℕ) : Type 0 where
+  pub sound : (x k : ℕ) → k ∈ members onward (entryAt cursors x) → x ⟶ targetAt table k ∈ E
   pub rest : (x h : ℕ) → x ⟶ h ∈ E → ¬ (entryAt cursors x ≡ 0) → ¬ (entryAt cursors h ≡ 0) →
       (k : ℕ) × (k ∈ members onward (entryAt cursors x)) × (targetAt table k ≡ h)
 
@@ -87,43 +87,19 @@ pub record Arrays (end : ℕ) (distances lows queue : List ℕ) : Type 0 where
 abbrev pub numbers : List ℕ → ℕ → ℕ
 numbers l i = getD l i 0
 
--- A search that stands somewhere, over whatever arrows the lists stand for.
-pub record Stands (root at end : ℕ) (table : Table) (heads links left distances lows queue : List ℕ) : Type 0 where
-  pub arrays : Arrays end distances lows queue
-  pub state : (E : List Edge) → Lists E table heads links → State (among left E) root at end (numbers distances) (numbers lows) (numbers queue)
-
-abbrev pub closing : (group arrows : ℕ) → Closing
-closing group arrows = record { group = group; arrows = arrows }
-
--- The arrows from the root to groups that were gone back from: none; or the nearest such groups lie so far, and no way through them passes a lower one.
-pub record Shuts (F : List Edge) (root at end : ℕ) (D L Q : ℕ → ℕ) (c : Closing) : Type 0 where
-  pub begun : c .arrows ≡ 0 → c .group ≡ root
-  pub way : ¬ (c .arrows ≡ 0) → Passes F (c .arrows) root (c .group) root
-  pub ahead : ¬ (c .arrows ≡ 0) → (i : ℕ) → at ≤ i → i < end → c .arrows ≤ D (Q i)
-  pub seen : (j : ℕ) → j < at → root ⟶ Q j ∈ F → (¬ (c .arrows ≡ 0)) × (c .arrows ≤ D (Q j)) × (c .arrows ≡ D (Q j) → c .group ≤ L (Q j))
-
--- What holds over whatever arrows, and what needs none.
-pub record Searching (root at end most : ℕ) (table : Table) (heads links left distances lows queue : List ℕ) (c : Closing) : Type 0 where
-  pub stands : Stands root at end table heads links left distances lows queue
-  pub most-fits : most ≤ maxItems
-  pub few : c .arrows ≤ most
-  pub low : c .group ≤ root
-  pub shuts : (E : List Edge) → Lists E table heads links →
-      Shuts (among left E) root at end (numbers distances) (numbers lows) (numbers queue) c
-
 -- The group at a place of the queue, its distance, and the lowest group on its way.
 abbrev pub reachedAt : (at : ℕ) → (distances lows queue : List ℕ) → Reached
 reachedAt at distances lows queue =
     record { group = entryAt queue at; level = entryAt distances (entryAt queue at); low = entryAt lows (entryAt queue at) }
 
 -- A search that has a group to go back from.
-pub record Ahead (root at : ℕ) (next : Reached) (end : ℕ) (table : Table) (heads links left distances lows queue : List ℕ) : Type 0 where
+pub record Ahead (at : ℕ) (next : Reached) (end : ℕ) (distances lows queue : List ℕ) : Type 0 where
   pub ahead : at < end
   pub here-is : getD queue at 0 ≡ next .group
   pub far : next .level ≡ getD distances (getD queue at 0) 0
   pub lowest : next .low ≡ getD lows (getD queue at 0) 0
   pub fits : next .level ≤ maxItems
-  pub stands : Stands root at end table heads links left distances lows queue
+  pub arrays : Arrays end distances lows queue
 
 -- What a search begins with.
 pub record Ready (root most : ℕ) (lows queue : List ℕ) : Type 0 where
@@ -145,45 +121,69 @@ pub data Meets (from distance low : ℕ) (distances lows queue : List ℕ) (end 
       distances′ ≡ distances → lows′ ≡ lows → queue′ ≡ queue → end′ ≡ end →
       Meets from distance low distances lows queue end distances′ lows′ queue′ end′
 
--- An arrow from the root was met before, or this is one.
-pub record Closes (closed : Bool) (root from : ℕ) (told : Bool) : Type 0 where
-  pub yes : told ≡ true → (closed ≡ true) ⊎ (from ≡ root)
-  pub not-yet : told ≡ false → (closed ≡ false) × (¬ (from ≡ root))
-
 -- The group that an arrow comes from is taken out, and nothing changes; or it is met.
-pub data Visits (root from distance low : ℕ) (left distances lows queue : List ℕ) (met : Met) : (distances′ lows′ queue′ : List ℕ) → Met → Type 0 where
-  passed : entryAt left from ≡ 0 → Visits root from distance low left distances lows queue met distances lows queue met
-  visited : {distances′ lows′ queue′ : List ℕ} {met′ : Met} → ¬ (entryAt left from ≡ 0) → Closes (met .closed) root from (met′ .closed) →
-      Meets from distance low distances lows queue (met .end) distances′ lows′ queue′ (met′ .end) →
-      Visits root from distance low left distances lows queue met distances′ lows′ queue′ met′
+pub data Visits (from distance low : ℕ) (left distances lows queue : List ℕ) (end : ℕ) : (distances′ lows′ queue′ : List ℕ) → (end′ : ℕ) → Type 0 where
+  passed : entryAt left from ≡ 0 → Visits from distance low left distances lows queue end distances lows queue end
+  visited : {distances′ lows′ queue′ : List ℕ} {end′ : ℕ} → ¬ (entryAt left from ≡ 0) →
+      Meets from distance low distances lows queue end distances′ lows′ queue′ end′ →
+      Visits from distance low left distances lows queue end distances′ lows′ queue′ end′
 
--- What stood in the queue up to a place stands there still, as far and with the same lowest group.
-pub record Kept (at : ℕ) (D L Q D′ L′ Q′ : ℕ → ℕ) : Type 0 where
-  pub place : (j : ℕ) → j ≤ at → Q′ j ≡ Q j
-  pub lies : (j : ℕ) → j ≤ at → D′ (Q j) ≡ D (Q j)
-  pub low : (j : ℕ) → j ≤ at → L′ (Q j) ≡ L (Q j)
-
--- What going back from one of the groups met came to: all arrows into it were gone back, and it is told whether one comes from the root.
-pub record Gone (F : List Edge) (root at end : ℕ) (D L Q D′ L′ Q′ : ℕ → ℕ) (closed : Bool) : Type 0 where
-  pub state : State F root (suc at) end D′ L′ Q′
-  pub kept : Kept at D L Q D′ L′ Q′
-  pub round : closed ≡ true → root ⟶ Q at ∈ F
-  pub unclosed : closed ≡ false → ¬ (root ⟶ Q at ∈ F)
-
-pub record Back (root at : ℕ) (table : Table) (heads links left distances lows queue distances′ lows′ queue′ : List ℕ) (end′ : ℕ) (closed : Bool) :
-    Type 0 where
+-- All arrows into the next group were gone back, whatever the root and the arrows that the lists stand for.
+pub record Back (at end : ℕ) (table : Table) (heads links left distances lows queue distances′ lows′ queue′ : List ℕ) (end′ : ℕ) : Type 0 where
   pub arrays : Arrays end′ distances′ lows′ queue′
-  pub gone : (E : List Edge) → Lists E table heads links →
-      Gone (among left E) root at end′ (numbers distances) (numbers lows) (numbers queue) (numbers distances′) (numbers lows′) (numbers queue′) closed
+  pub gone : (root : ℕ) (E : List Edge) → Lists E table heads links →
+      State (among left E) root at end (numbers distances) (numbers lows) (numbers queue) →
+      State (among left E) root (suc at) end′ (numbers distances′) (numbers lows′) (numbers queue′)
 
--- An arrow from the root closes ways of so many arrows, with the lowest group on them; or nothing changes.
-pub record Notes (best : Closing) (closed : Bool) (next : Reached) (c : Closing) : Type 0 where
-  pub round : closed ≡ true → (c .arrows ≡ next .level) × (c .group ≡ min (best .group) (next .low))
-  pub same : closed ≡ false → _≡_ {A = Closing} c best
+-- Only the root is met.
+pub record Begun (most : ℕ) (distances lows queue : List ℕ) : Type 0 where
+  pub most-fits : most ≤ maxItems
+  pub arrays : Arrays 1 distances lows queue
 
--- As many arrows as lead back to the best group so far; if there is none, as many as are looked for.
-unfoldable pub limitOf : (best : Closing) → (most : ℕ) → ℕ
-limitOf best most = when (eqb (best .arrows) 0) (λ _. most) (λ _. best .arrows)
+-- The arrows were gone back into all groups that were met at less than so great a distance.
+pub record Explored (F : List Edge) (root most : ℕ) (D L Q : ℕ → ℕ) : Type 0 where
+  pub at : ℕ
+  pub end : ℕ
+  pub state : State F root at end D L Q
+  pub beyond : (i : ℕ) → at ≤ i → i < end → most ≤ D (Q i)
+
+pub record Explores (most : ℕ) (table : Table) (heads links left distances lows queue distances′ lows′ queue′ : List ℕ) : Type 0 where
+  pub distances-long : length distances′ ≡ maxItems
+  pub lows-long : length lows′ ≡ maxItems
+  pub queue-long : length queue′ ≡ maxItems
+  pub explored : (root : ℕ) (E : List Edge) → Lists E table heads links →
+      State (among left E) root 0 1 (numbers distances) (numbers lows) (numbers queue) →
+      Explored (among left E) root most (numbers distances′) (numbers lows′) (numbers queue′)
+
+abbrev pub closing : (group arrows : ℕ) → Closing
+closing group arrows = record { group = group; arrows = arrows }
+
+-- So many arrows lead back to this group; to a group z not fewer than m do, and if as many, it is no higher than z.
+pub record Beats (c : Closing) (m z : ℕ) : Type 0 where
+  pub some-lead : ¬ (c .arrows ≡ 0)
+  pub fewer : c .arrows ≤ m
+  pub lower : c .arrows ≡ m → c .group ≤ z
+
+-- One of two that beats what either of them beats.
+pub record Better (best found c : Closing) : Type 0 where
+  pub one : (_≡_ {A = Closing} c best) ⊎ (_≡_ {A = Closing} c found)
+  pub as-best : (m z : ℕ) → Beats best m z → Beats c m z
+  pub as-found : (m z : ℕ) → Beats found m z → Beats c m z
+
+-- What is told of an arrow from the root to a group: the group's distance, if it is near enough, and the lowest group on its way.
+pub record ClosesBy (root to most : ℕ) (distances lows : List ℕ) (c : Closing) : Type 0 where
+  pub group : c .group ≡ min root (entryAt lows to)
+  pub near : entryAt distances to ≤ most → c .arrows ≡ entryAt distances to
+  pub far : most < entryAt distances to → c .arrows ≡ 0
+
+-- The best of all arrows from the root to groups that are left.
+pub record Closes (root most : ℕ) (table : Table) (onward left distances lows : List ℕ) (c : Closing) : Type 0 where
+  pub few : c .arrows ≤ most
+  pub low : c .group ≤ root
+  pub one : ¬ (c .arrows ≡ 0) → (k : ℕ) × (k ∈ members onward (entryAt left root)) × (c .arrows ≡ entryAt distances (targetAt table k)) ×
+      (c .group ≡ min root (entryAt lows (targetAt table k)))
+  pub beats : (k : ℕ) → k ∈ members onward (entryAt left root) → ¬ (entryAt distances (targetAt table k) ≡ 0) →
+      entryAt distances (targetAt table k) ≤ most → Beats c (entryAt distances (targetAt table k)) (min root (entryAt lows (targetAt table k)))
 
 -- What a search along these arrows tells of its root: so many arrows, 0 if none, lead back to it, of at most `most`, and the group is the lowest on such
 -- a way.
@@ -199,11 +199,12 @@ pub record Distances (F : List Edge) (root arrows : ℕ) (D : ℕ → ℕ) : Typ
   pub sound : (x : ℕ) → ¬ (D x ≡ 0) → Walk F (D x - 1) x root
   pub complete : (m x : ℕ) → m + 1 ≤ arrows → Walk F m x root → (¬ (D x ≡ 0)) × (D x ≤ m + 1)
 
-pub record Searched (root most : ℕ) (table : Table) (heads links left distances lows queue : List ℕ) (c : Closing) : Type 0 where
+pub record Searched (root most : ℕ) (table : Table) (heads links onward left distances lows queue : List ℕ) (c : Closing) : Type 0 where
   pub distances-long : length distances ≡ maxItems
   pub lows-long : length lows ≡ maxItems
   pub queue-long : length queue ≡ maxItems
   pub few : c .arrows ≤ most
   pub low : c .group ≤ root
-  pub told : (E : List Edge) → Lists E table heads links → Told (among left E) root most c
-  pub far : ¬ (c .arrows ≡ 0) → (E : List Edge) → Lists E table heads links → Distances (among left E) root (c .arrows) (numbers distances)
+  pub told : (E : List Edge) → Lists E table heads links → Onward E table onward left → Told (among left E) root most c
+  pub far : ¬ (c .arrows ≡ 0) → (E : List Edge) → Lists E table heads links → Onward E table onward left →
+      Distances (among left E) root (c .arrows) (numbers distances)

@@ -68,6 +68,7 @@ pub fn ring(groups: u16, edges: &Edges, count: usize, waiting: &Groups) -> Found
         edges,
         &heads,
         &links,
+        &onward,
         &tails,
         &mut distances,
         &mut lows,

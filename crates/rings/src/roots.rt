@@ -4,7 +4,7 @@ use crate::numbers::entry;
 use crate::numbers::lower;
 use crate::removing::take_out;
 use crate::searches::Closing;
-use crate::searches::limit_of;
+use crate::searches::better;
 use crate::searches::search;
 use chains::older;
 use graph::Edges;
@@ -13,7 +13,7 @@ use indexing::Links;
 use model::ITEMS;
 ghost use mathlib.Core.Path.{_≡_};
 ghost use Rattle.model.specs.Limits.{maxItems};
-ghost use Rattle.rings.specs.Roots.{Entered, Better, Grown, Rooted, Chosen};
+ghost use Rattle.rings.specs.Roots.{Entered, limitOf, Grown, Rooted, Chosen};
 
 // So many arrows are looked for first, and so many times as many each time that none were found.
 const FIRST: u16 = 2;
@@ -35,26 +35,14 @@ fn entered(root: u16, edges: &Edges, heads: &Groups, links: &Links) -> bool
     false
 }
 
-// The one with fewer arrows; if they have as many, with the lower group.
-fn better(best: Closing, found: Closing) -> Closing
-    ensures { λ r. ⌜ Better best found r ⌝ }
+// How many arrows are looked for next: no more than lead back to the best group so far.
+fn limit_of(best: Closing, most: u16) -> u16
+    ensures { λ r. ⌜ r ≡ limitOf best most ⌝ }
 {
-    if found.arrows == 0 {
-        return best;
-    }
     if best.arrows == 0 {
-        return found;
+        return most;
     }
-    if found.arrows < best.arrows {
-        return found;
-    }
-    if best.arrows < found.arrows {
-        return best;
-    }
-    Closing {
-        group: lower(best.group, found.group),
-        arrows: best.arrows,
-    }
+    best.arrows
 }
 
 // Looks for at most so many arrows from each group, the highest first, through those that are left; then it is taken out, since every way round
@@ -92,6 +80,7 @@ fn closest_within(
                     edges,
                     heads,
                     links,
+                    onward,
                     &cursors,
                     distances,
                     lows,

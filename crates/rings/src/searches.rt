@@ -1,4 +1,5 @@
 // The search back from a group through the groups that are left.
+use crate::arrows::end_of;
 use crate::arrows::start_of;
 use crate::numbers::entry;
 use crate::numbers::lower;
@@ -8,28 +9,12 @@ use graph::Groups;
 use indexing::Links;
 use model::ITEMS;
 ghost use mathlib.Core.Path.{_≡_};
-ghost use Rattle.rings.specs.Searches.{limitOf, reachedAt, Meets, Closes, Visits, Ahead, Back, Notes, Ready, Searching, closing, Searched};
+ghost use Rattle.rings.specs.Searches.{reachedAt, Meets, Visits, Ahead, Back, Begun, Explores, Better, ClosesBy, Closes, Ready, Searched};
 
 // A group, and how many arrows lead back to it: 0 if none do.
 pub struct Closing {
     pub group: u16,
     pub arrows: u16,
-}
-
-// How many arrows are looked for next: no more than lead back to the best group so far.
-pub fn limit_of(best: Closing, most: u16) -> u16
-    ensures { λ r. ⌜ r ≡ limitOf best most ⌝ }
-{
-    if best.arrows == 0 {
-        return most;
-    }
-    best.arrows
-}
-
-// How many groups were met, and whether an arrow from the root was.
-pub struct Met {
-    pub end: usize,
-    pub closed: bool,
 }
 
 // A group that was met, its distance, and the lowest group on its way.
@@ -82,19 +67,8 @@ fn meet(
     end
 }
 
-// Whether an arrow from the root was met, with one more arrow.
-fn closes(closed: bool, root: u16, from: u16) -> bool
-    ensures { λ r. ⌜ Closes closed root from r ⌝ }
-{
-    if from == root {
-        return true;
-    }
-    closed
-}
-
-// Meets the group that an arrow comes from, if it is left, and notes whether it is the root.
+// Meets the group that an arrow comes from, if it is left.
 fn visit(
-    root: u16,
     from: u16,
     distance: u16,
     low: u16,
@@ -102,22 +76,19 @@ fn visit(
     distances: &mut Groups,
     lows: &mut Groups,
     queue: &mut Groups,
-    met: Met,
-) -> Met
-    ensures { λ r. ⌜ Visits root from distance low (now (left .entry)) (now (distances .entry)) (now (lows .entry)) (now (queue .entry)) met
+    end: usize,
+) -> usize
+    ensures { λ r. ⌜ Visits from distance low (now (left .entry)) (now (distances .entry)) (now (lows .entry)) (now (queue .entry)) end
         (now (distances .exit)) (now (lows .exit)) (now (queue .exit)) r ⌝ }
 {
     if entry(left, from as usize) == 0 {
-        return met;
+        return end;
     }
-    let closed = closes(met.closed, root, from);
-    let end = meet(from, distance, low, distances, lows, queue, met.end);
-    Met { end, closed }
+    meet(from, distance, low, distances, lows, queue, end)
 }
 
 // Goes back along the arrows into the group at a place of the queue.
 fn step_back(
-    root: u16,
     at: usize,
     next: Reached,
     edges: &Edges,
@@ -128,40 +99,25 @@ fn step_back(
     lows: &mut Groups,
     queue: &mut Groups,
     end: usize,
-) -> Met
-    requires { ⌜ Ahead root at next end (now edges) (now heads) (now links) (now left) (now distances) (now lows) (now queue) ⌝ }
-    ensures { λ r. ⌜ Back root at (now (edges .entry)) (now (heads .entry)) (now (links .entry)) (now (left .entry))
-        (now (distances .entry)) (now (lows .entry)) (now (queue .entry)) (now (distances .exit)) (now (lows .exit)) (now (queue .exit))
-        (r .end) (r .closed) ⌝ }
+) -> usize
+    requires { ⌜ Ahead at next end (now distances) (now lows) (now queue) ⌝ }
+    ensures { λ r. ⌜ Back at end (now (edges .entry)) (now (heads .entry)) (now (links .entry)) (now (left .entry))
+        (now (distances .entry)) (now (lows .entry)) (now (queue .entry)) (now (distances .exit)) (now (lows .exit)) (now (queue .exit)) r ⌝ }
 {
     let distance = next.level + 1;
     let low = next.low;
     let mut member = entry(heads, next.group as usize);
-    let mut met = Met { end, closed: false };
+    let mut last = end;
     while member > 0 {
         let from = start_of(edges, member);
         member = older(links, member);
-        met = visit(root, from, distance, low, left, distances, lows, queue, met);
+        last = visit(from, distance, low, left, distances, lows, queue, last);
     }
-    met
+    last
 }
 
-// The lowest group on the ways round so far, and on those by a group that was met, if an arrow leads from the root to it.
-fn noted(best: Closing, closed: bool, next: Reached) -> Closing
-    ensures { λ r. ⌜ Notes best closed next r ⌝ }
-{
-    if closed {
-        return Closing {
-            group: lower(best.group, next.low),
-            arrows: next.level,
-        };
-    }
-    best
-}
-
-// The search from where only the root was met.
-fn search_on(
-    root: u16,
+// Meets the groups from which fewer than so many arrows lead to where the search began.
+fn explore(
     most: u16,
     edges: &Edges,
     heads: &Groups,
@@ -170,24 +126,19 @@ fn search_on(
     distances: &mut Groups,
     lows: &mut Groups,
     queue: &mut Groups,
-) -> Closing
-    requires { ⌜ Searching root 0 1 most (now edges) (now heads) (now links) (now left) (now distances) (now lows) (now queue) (closing root 0) ⌝ }
-    ensures { λ r. ⌜ Searched root most (now (edges .entry)) (now (heads .entry)) (now (links .entry)) (now (left .entry))
-        (now (distances .exit)) (now (lows .exit)) (now (queue .exit)) r ⌝ }
+)
+    requires { ⌜ Begun most (now distances) (now lows) (now queue) ⌝ }
+    ensures { λ r. ⌜ Explores most (now (edges .entry)) (now (heads .entry)) (now (links .entry)) (now (left .entry))
+        (now (distances .entry)) (now (lows .entry)) (now (queue .entry)) (now (distances .exit)) (now (lows .exit)) (now (queue .exit)) ⌝ }
 {
-    let mut best = Closing {
-        group: root,
-        arrows: 0,
-    };
     let mut end = 1;
     let mut at = 0;
     while at < end {
         let next = reached_at(at, distances, lows, queue);
-        if limit_of(best, most) < next.level {
-            return best;
+        if most <= next.level {
+            return;
         }
-        let met = step_back(
-            root,
+        end = step_back(
             at,
             next,
             edges,
@@ -199,9 +150,65 @@ fn search_on(
             queue,
             end,
         );
-        best = noted(best, met.closed, next);
-        end = met.end;
         at += 1;
+    }
+}
+
+// The one with fewer arrows; if they have as many, with the lower group.
+pub fn better(best: Closing, found: Closing) -> Closing
+    ensures { λ r. ⌜ Better best found r ⌝ }
+{
+    if found.arrows == 0 {
+        return best;
+    }
+    if best.arrows == 0 {
+        return found;
+    }
+    if found.arrows < best.arrows {
+        return found;
+    }
+    if best.arrows < found.arrows {
+        return best;
+    }
+    Closing {
+        group: lower(best.group, found.group),
+        arrows: best.arrows,
+    }
+}
+
+// The shortest ways round by an arrow from the root to a group, if they have at most so many arrows, and the lowest group on them.
+fn closing_by(root: u16, to: u16, most: u16, distances: &Groups, lows: &Groups) -> Closing
+    ensures { λ r. ⌜ ClosesBy root to most (now (distances .entry)) (now (lows .entry)) r ⌝ }
+{
+    let group = lower(root, entry(lows, to as usize));
+    let arrows = entry(distances, to as usize);
+    if arrows <= most {
+        return Closing { group, arrows };
+    }
+    Closing { group, arrows: 0 }
+}
+
+// The same by all arrows from the root to groups that are left.
+fn closing_of(
+    root: u16,
+    most: u16,
+    edges: &Edges,
+    onward: &Links,
+    left: &Groups,
+    distances: &Groups,
+    lows: &Groups,
+) -> Closing
+    ensures { λ r. ⌜ Closes root most (now (edges .entry)) (now (onward .entry)) (now (left .entry)) (now (distances .entry)) (now (lows .entry)) r ⌝ }
+{
+    let mut best = Closing {
+        group: root,
+        arrows: 0,
+    };
+    let mut member = entry(left, root as usize);
+    while member > 0 {
+        let to = end_of(edges, member);
+        member = older(onward, member);
+        best = better(best, closing_by(root, to, most, distances, lows));
     }
     best
 }
@@ -214,28 +221,20 @@ pub fn search(
     edges: &Edges,
     heads: &Groups,
     links: &Links,
+    onward: &Links,
     left: &Groups,
     distances: &mut Groups,
     lows: &mut Groups,
     queue: &mut Groups,
 ) -> Closing
     requires { ⌜ Ready root most (now lows) (now queue) ⌝ }
-    ensures { λ r. ⌜ Searched root most (now (edges .entry)) (now (heads .entry)) (now (links .entry)) (now (left .entry))
+    ensures { λ r. ⌜ Searched root most (now (edges .entry)) (now (heads .entry)) (now (links .entry)) (now (onward .entry)) (now (left .entry))
         (now (distances .exit)) (now (lows .exit)) (now (queue .exit)) r ⌝ }
 {
     *distances = [0; ITEMS];
     distances[root as usize] = 1;
     lows[root as usize] = root;
     queue[0] = root;
-    search_on(
-        root,
-        most,
-        edges,
-        heads,
-        links,
-        left,
-        distances,
-        lows,
-        queue,
-    )
+    explore(most, edges, heads, links, left, distances, lows, queue);
+    closing_of(root, most, edges, onward, left, distances, lows)
 }

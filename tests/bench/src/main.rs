@@ -2,7 +2,8 @@
 //!
 //! Prints two lines for each function and shape of records, and for the check on programs and on starts with a record of no items; the time of a
 //! call on run b, which is one small record, and of the check on run b from a few readings; and whether the first program's time grows in step with
-//! the items, with the transitions, or with the readings. Ends with 1 if it does not, or if the two programs disagree on an input.
+//! the items, with the transitions, or with the readings. Ends with 1 if it does not, if a ring takes too long to find, or if the two programs disagree
+//! on an input.
 
 mod first;
 mod mixed;
@@ -27,8 +28,11 @@ const TRANSITIONS: [usize; 2] = [200, 400];
 const READINGS: [usize; 2] = [512, 1024];
 /// The cells of a rank with readings in all of them.
 const CELLS: usize = 64;
-/// How many times the cost of a record, program or start one of twice the length may have.
+/// How many times the cost of a record, program or start one of twice the length may have, and that of a record with a ring, which is searched for.
 const MOST_GROWTH: f64 = 2.2;
+const MOST_RING_GROWTH: f64 = 4.0;
+/// The microseconds that a check of a record with a ring may take.
+const MOST_RING_COST: f64 = 300.0;
 /// Run b of document 01: the sample that `make sample` lists.
 const RUN_B: (&[u8], &[u8]) = (
     include_bytes!("../../../samples/neighbour/run.prg"),
@@ -321,11 +325,20 @@ fn measured(work: &Work, shape: &Shape) -> Result<bool, String> {
     }
     let times = measure(work, &mut inputs, FIRST_CALLS, SECOND_CALLS);
     let name = format!("{:7} {:7}", work.name, shape.name);
-    Ok(in_step(&name, LENGTHS, &times))
+    if shape.cyclic && times[1].first > MOST_RING_COST {
+        println!("{name} at most {MOST_RING_COST} us are allowed: TOO MUCH");
+        return Ok(false);
+    }
+    let most = if shape.cyclic {
+        MOST_RING_GROWTH
+    } else {
+        MOST_GROWTH
+    };
+    Ok(in_step(&name, LENGTHS, &times, most))
 }
 
-/// Prints a line for each of two lengths, and says whether the first program's time grows in step with them.
-fn in_step(name: &str, lengths: [usize; 2], times: &[Times]) -> bool {
+/// Prints a line for each of two lengths, and says whether the first program's time grows in step with them, by at most so much.
+fn in_step(name: &str, lengths: [usize; 2], times: &[Times], most: f64) -> bool {
     for (length, Times { first, second }) in lengths.into_iter().zip(times) {
         let each = 1e3 * first / length as f64;
         let ratio = first / second;
@@ -333,9 +346,9 @@ fn in_step(name: &str, lengths: [usize; 2], times: &[Times]) -> bool {
     }
     let [half, whole] = lengths;
     let growth = times[1].first / times[0].first;
-    let linear = growth <= MOST_GROWTH;
+    let linear = growth <= most;
     let verdict = if linear { "ok" } else { "TOO MUCH" };
-    println!("{name} {whole} cost {growth:.2} times what {half} cost; at most {MOST_GROWTH:.1} is allowed: {verdict}");
+    println!("{name} {whole} cost {growth:.2} times what {half} cost; at most {most:.1} is allowed: {verdict}");
     linear
 }
 
@@ -387,7 +400,7 @@ fn reading(
     }
     let times = measure(work, &mut inputs, first_calls, second_calls);
     let name = format!("{:7} {what:7}", work.name);
-    Ok(in_step(&name, lengths, &times))
+    Ok(in_step(&name, lengths, &times, MOST_GROWTH))
 }
 
 /// Measures a function on run b from these start bytes.

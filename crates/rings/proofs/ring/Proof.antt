@@ -16,7 +16,7 @@ search-requires c κs = search ready-again
 
 lowest-nexts-requires : tie.Need-lowest-nexts-requires
 lowest-nexts-requires c κs =
-    let atClosest = c .before .before .before .before .before .before .before .before in
+    let atClosest = c .before .before .before .before .before .before .before .before .before in
     let atLimit = atClosest .before .before .before .before .before .before .before .before .before .before .before .before .before in
     fits-in _ (atLimit .groups-in .ensures)
 
@@ -24,7 +24,7 @@ returns : tie.Need-returns
 returns c =
     let atNexts = c .before .before in
     let atSearch = atNexts .before .before in
-    let atClosest = atSearch .before .before .before .before .before .before .before in
+    let atClosest = atSearch .before .before .before .before .before .before .before .before in
     let atLists = atClosest .before .before .before .before .before .before .before .before in
     let atLimit = atLists .before .before .before .before .before in
     answer _ _ _ _ (atLimit .groups-in .ensures) _ (atLists .list-arrows .ensures) (atClosest .closest .ensures) (atSearch .search .ensures) refl

@@ -5,11 +5,11 @@ use Rattle.rings.proofs.searches.step_back.Statement.{statement}
 use Rattle.rings.proofs.searches.step_back.Tie as tie
 
 abbrev Inv-loop : tie.InvT-loop
-Inv-loop root at edges heads links left distances₀ lows₀ queue₀ end distance low member₀ met₀ distances lows queue member met =
-    Going-back root distance low at edges heads links left distances₀ lows₀ queue₀ (met .closed) distances lows queue (met .end) member
+Inv-loop at edges heads links left distances₀ lows₀ queue₀ end distance low member₀ last₀ distances lows queue member last =
+    Going-back distance low at end edges heads links left distances₀ lows₀ queue₀ distances lows queue last member
 
 abbrev μ-loop : tie.MeasureT-loop
-μ-loop root at edges heads links left distances₀ lows₀ queue₀ end distance low member₀ met₀ distances lows queue member met = member
+μ-loop at edges heads links left distances₀ lows₀ queue₀ end distance low member₀ last₀ distances lows queue member last = member
 
 loop-holds : tie.Need-loop-holds Inv-loop μ-loop
 loop-holds c = search back-begins

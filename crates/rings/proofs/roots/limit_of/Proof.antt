@@ -1,7 +1,7 @@
 -- `limit_of` meets its contract: its test is the definition's.
-use Rattle.rings.proofs.Ending.{limit-none, limit-best}
-use Rattle.rings.proofs.searches.limit_of.Statement.{statement}
-use Rattle.rings.proofs.searches.limit_of.Tie as tie
+use Rattle.rings.proofs.Looking.{limit-none, limit-best}
+use Rattle.rings.proofs.roots.limit_of.Statement.{statement}
+use Rattle.rings.proofs.roots.limit_of.Tie as tie
 
 returns : tie.Need-returns
 returns c = search limit-none

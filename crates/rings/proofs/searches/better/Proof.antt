@@ -1,8 +1,8 @@
--- `better`: each way out is a law of `Looking`.
-use Rattle.rings.proofs.Looking.{better-none, better-first, better-fewer, better-more, better-lower}
+-- `better`: each way out is a law of `Ending`.
+use Rattle.rings.proofs.Ending.{better-none, better-first, better-fewer, better-more, better-lower}
 use borrow.Author.Needs.{needs}
-use Rattle.rings.proofs.roots.better.Statement.{statement}
-use Rattle.rings.proofs.roots.better.Tie as tie
+use Rattle.rings.proofs.searches.better.Statement.{statement}
+use Rattle.rings.proofs.searches.better.Tie as tie
 
 returns : tie.Need-returns
 returns c = search better-none
