@@ -1,17 +1,17 @@
 -- The entry that Table 1's pops take, the head or the oldest for a rank, is the one that the replay takes, with the marks and without them.
 use Prim.Native.Nat.{ℕ, _≤_}
 use mathlib.Core.Path.{_≡_, refl, sym, ap, subst, _∙_}
-use mathlib.Core.Bool.{Bool, true, false, true≢false}
-use mathlib.Core.List.{List, [], _∷_, _++_, map}
-use mathlib.Core.Option.{Option, some, none, Option·none-ne-some, Option·some-injective}
+use mathlib.Core.Bool.{true, false, true≢false}
+use mathlib.Core.List.{List, [], _∷_, _++_}
+use mathlib.Core.Option.{some}
 use native.Mathlib.Omega.{arith}
 use lib.Dec.{eqb}
 use borrow.Author.Tests.{eq-eqb, ne-eqb, eqb-true, eqb-false}
-use Rattle.model.specs.Choice.{Each, all, one}
+use Rattle.model.specs.Choice.{Each, one}
 use Rattle.model.specs.Programs.{Program}
 use Rattle.model.specs.Rules.{Rank, OldestFor}
-use Rattle.model.specs.Replay.{isFor, behind, oldest}
-use Rattle.model.proofs.Laws.{decided}
+use Rattle.model.specs.Replay.{isFor, oldest}
+use Rattle.model.proofs.Laws.{decided, each-weaker}
 use Rattle.model.proofs.Replay.{Oldest, oldest-is, is-oldest}
 
 -- The entry that a rule for a pop takes, by the rank that the event names: the head where it names none.
@@ -27,10 +27,6 @@ any-passes n = refl
 named-tests : (named n : ℕ) → ¬ (named ≡ 0) → isFor named n ≡ eqb named n
 unfolding isFor
 named-tests named n other = rw (ne-eqb named 0 other)
-
-each-map : {A : Type 0} {Holds Others : A → Type 0} {l : List A} → ((a : A) → Holds a → Others a) → Each Holds l → Each Others l
-each-map f all = all
-each-map f (one h each) = one (f _ h) (each-map f each)
 
 module _ (P : Program) {A : Type 0} (remote : A → ℕ) {queue : List A} {a : A} {left : List A} where
   -- What the replay takes, a rule takes.
@@ -50,7 +46,7 @@ module _ (P : Program) {A : Type 0} (remote : A → ℕ) {queue : List A} {a : A
         leaves = o .leaves;
         for-rank = sym (eqb-true named (remote a) (sym (named-tests named (remote a) other) ∙ o .passes));
         first =
-            each-map (λ x fails same. eqb-false named (remote x) (sym (named-tests named (remote x) other) ∙ fails) (sym same)) (o .first);
+            each-weaker (λ x fails same. eqb-false named (remote x) (sym (named-tests named (remote x) other) ∙ fails) (sym same)) (o .first);
       }
 
   pub rule-takes : (named : ℕ) → named ≤ P .header .ranks → oldest (λ x. isFor named (remote x)) queue ≡ some (a, left) →
@@ -79,45 +75,5 @@ module _ (P : Program) {A : Type 0} (remote : A → ℕ) {queue : List A} {a : A
         stands = o .stands;
         leaves = o .leaves;
         passes = named-tests n (remote a) other ∙ eq-eqb n (remote a) (sym (o .for-rank));
-        first = each-map (λ x differs. named-tests n (remote x) other ∙ ne-eqb n (remote x) (λ same. differs (sym same))) (o .first);
+        first = each-weaker (λ x differs. named-tests n (remote x) other ∙ ne-eqb n (remote x) (λ same. differs (sym same))) (o .first);
       })
-
--- Erasing the marks does not change which entry is taken.
-abbrev erased : {A B : Type 0} → (A → B) → Option (A × List A) → Option (B × List B)
-erased f none = none
-erased f (some (a, rest)) = some (f a, map f rest)
-
-module _ {A B : Type 0} (f : A → B) (among : B → Bool) where
-  erased-behind : (b : A) (o : Option (A × List A)) → behind (f b) (erased f o) ≡ erased f (behind b o)
-  erased-behind b none = refl
-  erased-behind b (some (a, rest)) = refl
-
-  oldest-erased : (l : List A) → oldest among (map f l) ≡ erased f (oldest (λ a. among (f a)) l)
-  unfolding oldest
-  oldest-erased [] = refl
-  oldest-erased (a ∷ l) =
-      decided (among (f a))
-      (λ passes. rw passes)
-      (λ fails. rw fails (ap (behind (f a)) (oldest-erased l) ∙ erased-behind a (oldest (λ x. among (f x)) l)))
-
-  pub erased-taken : (l : List A) {a : A} {rest : List A} → oldest (λ x. among (f x)) l ≡ some (a, rest) →
-      oldest among (map f l) ≡ some (f a, map f rest)
-  erased-taken l h = oldest-erased l ∙ ap (erased f) h
-
-  -- The entry with its mark.
-  pub record Marked (l : List A) (b : B) (left : List B) : Type 0 where
-    pub entry : A
-    pub rest : List A
-    pub chosen : oldest (λ x. among (f x)) l ≡ some (entry, rest)
-    pub here : f entry ≡ b
-    pub others : map f rest ≡ left
-
-  marked : (l : List A) {b : B} {left : List B} (o : Option (A × List A)) → oldest (λ x. among (f x)) l ≡ o → erased f o ≡ some (b, left) →
-      Marked l b left
-  marked l none e h = absurd (Option·none-ne-some _ h)
-  marked l {b} {left} (some (a, rest)) e h =
-      let same = Option·some-injective (f a, map f rest) (b, left) h in
-      record { entry = a; rest = rest; chosen = e; here = ap (λ (y : B × List B). y .0) same; others = ap (λ (y : B × List B). y .1) same }
-
-  pub taken-marked : (l : List A) {b : B} {left : List B} → oldest among (map f l) ≡ some (b, left) → Marked l b left
-  taken-marked l h = marked l (oldest (λ x. among (f x)) l) refl (sym (oldest-erased l) ∙ h)

@@ -18,11 +18,11 @@ use Rattle.model.specs.Machine.{Start, moveTo}
 use Rattle.model.specs.Rules.{Bare, Label, command, Rank, Enabled, Step, Run, stop, _then_, Recorded, AllRecorded, all, one, Final, IsRun}
 use Rattle.model.specs.Replay.{Replay, Replayed, Taken, accessOf, begin, rowAllows, takeItems, atEnd, replay}
 use Rattle.model.proofs.Replay.{ItemTaken, takes-item}
+use Rattle.model.proofs.Appending.{joined, takeItems-append}
 use Rattle.model.proofs.Laws.{decided, when-true, when-false}
 use Rattle.model.proofs.Actions.{loading, storing, assigning, passing, reading, writing, meeting}
 use Rattle.acceptance.specs.Bare.{bare}
 use Rattle.acceptance.proofs.Quiet.{final-quiet}
-use Rattle.acceptance.proofs.Appending.{joined, takeItems-append}
 use Rattle.acceptance.proofs.Marks.{successor}
 use Rattle.acceptance.proofs.Choosing.{Chosen}
 use Rattle.acceptance.proofs.Single.{Takes, asks-takes, fetch-takes, delivery-takes}

@@ -10,5 +10,4 @@ pub mod Single
 pub mod Rows
 pub mod Bars
 pub mod Soundness
-pub mod Appending
 pub mod Completeness

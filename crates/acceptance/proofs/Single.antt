@@ -15,12 +15,13 @@ use Rattle.model.specs.Rules.{Bare, Label, command, pop, Rank, Enabled, Step, R
 use Rattle.model.specs.Replay.{Replay, Taken, accessOf, rowAllows, afterCommand, isFor, afterFetch, afterDelivery}
 use Rattle.model.proofs.ItemKinds.{partOf-command}
 use Rattle.model.proofs.Replay.{CommandTaken, PopTaken, ItemTaken, commands, fetches, delivers}
+use Rattle.model.proofs.Erasing.{erased-taken, taken-marked}
 use Rattle.model.proofs.Actions.{Asks, loading, storing, assigning, passing, reading, writing, meeting, action-asks, asks-action}
 use Rattle.acceptance.specs.Bare.{bare, bareRequest, bareDelivery}
 use Rattle.acceptance.specs.Ranges.{PopIn, NamedIn, InRange}
 use Rattle.acceptance.proofs.ItemKinds.{chosen-transition}
 use Rattle.acceptance.proofs.Marks.{successor, bare-perform, fetchSuccessor, deliverySuccessor, bare-fetched, bare-delivered}
-use Rattle.acceptance.proofs.Choosing.{Chosen, head, for-rank, rule-takes, replay-takes, erased-taken, taken-marked}
+use Rattle.acceptance.proofs.Choosing.{Chosen, head, for-rank, rule-takes, replay-takes}
 use Rattle.acceptance.proofs.Agreement.{agrees-placed, placed-agrees}
 
 -- An enabled command that asks for an action is a step, unless it is a bar.

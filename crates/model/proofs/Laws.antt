@@ -3,7 +3,7 @@
 use Prim.Native.Nat.{ℕ, zero, suc, _<_, _≤_}
 use mathlib.Core.Path.{_≡_, refl, sym, subst, _∙_, ap, fun-ext}
 use mathlib.Core.Bool.{Bool, true, false, _&&_, _||_, false≢true}
-use mathlib.Core.List.{List, [], _∷_}
+use mathlib.Core.List.{List, [], _∷_, _++_}
 use mathlib.Core.Option.{Option, some, none, Option·none-ne-some}
 use native.Mathlib.Nat.{zero-lt-suc}
 use native.Mathlib.Omega.{arith}
@@ -11,7 +11,7 @@ use lib.Dec.{eqb, leb}
 use lib.ListN.{length, getElem?}
 use borrow.Author.Tests.{eq-eqb, ne-eqb, eqb-true, leb-true, le-leb}
 use Rattle.model.specs.Refusals.{Result, ok, refused, refuse, require, present, _>>=_}
-use Rattle.model.specs.Choice.{when, between}
+use Rattle.model.specs.Choice.{when, between, Each, all, one}
 use Rattle.model.specs.Machine.{put, put₂}
 
 -- A value is no refusal, and tells what it is a value of.
@@ -126,6 +126,14 @@ put₂-other f i j v k l h =
     (λ t. absurd (h (eqb-true k i (and-true (eqb k i) (eqb l j) t .0), eqb-true l j (and-true (eqb k i) (eqb l j) t .1))))
     (λ t. rw t)
 
+-- A row of such a function, where one of its own values changes, and where another row's does.
+pub put₂-row : {A : Type 0} (f : ℕ → ℕ → A) (i j : ℕ) (v : A) → put₂ f i j v i ≡ put (f i) j v
+unfolding put put₂
+put₂-row f i j v = fun-ext λ l. rw (eqb-refl i)
+
+pub put₂-other-row : {A : Type 0} (f : ℕ → ℕ → A) (i j : ℕ) (v : A) (k : ℕ) → ¬ (k ≡ i) → put₂ f i j v k ≡ f k
+put₂-other-row f i j v k other = fun-ext λ l. put₂-other f i j v k l (λ same. other (same .0))
+
 -- Such a function, seen through another.
 pub put₂-map : {A B : Type 0} (F : A → B) (f : ℕ → ℕ → A) (i j : ℕ) (v : A) → (λ k l. F (put₂ f i j v k l)) ≡ put₂ (λ k l. F (f k l)) i j (F v)
 unfolding put₂
@@ -136,6 +144,20 @@ pub put₂-holds : {A : Type 0} (Holds : A → Type 0) (f : ℕ → ℕ → A) (
     (k l : ℕ) → Holds (put₂ f i j v k l)
 unfolding put₂
 put₂-holds Holds f i j here others k l = decided (eqb k i && eqb l j) (λ t. rw t here) (λ t. rw t (others k l))
+
+-- What holds of each member: something weaker, two things at once, and of the members of two lists in a row.
+pub each-weaker : {A : Type 0} {Holds Weaker : A → Type 0} {l : List A} → ((a : A) → Holds a → Weaker a) → Each Holds l → Each Weaker l
+each-weaker weaker all = all
+each-weaker weaker (one h rest) = one (weaker _ h) (each-weaker weaker rest)
+
+pub each-both : {A : Type 0} {Holds Others Both : A → Type 0} {l : List A} → ((a : A) → Holds a → Others a → Both a) → Each Holds l → Each Others l →
+    Each Both l
+each-both both all all = all
+each-both both (one h rest) (one k others) = one (both _ h k) (each-both both rest others)
+
+pub each-append : {A : Type 0} {Holds : A → Type 0} {l m : List A} → Each Holds l → Each Holds m → Each Holds (l ++ m)
+each-append all behind = behind
+each-append (one h rest) behind = one h (each-append rest behind)
 
 -- The numbered members of a list.
 pub getElem?-bound : {A : Type 0} (l : List A) (i : ℕ) {a : A} → getElem? l i ≡ some a → i < length l

@@ -14,11 +14,12 @@ pub mod Extents
 pub mod ItemForms
 pub mod Formats
 pub mod FewRanks
-pub mod OneForm
 pub mod Records
 pub mod Ranges
 pub mod Actions
 pub mod Replay
+pub mod Erasing
+pub mod Appending
 pub mod Accepted
 pub mod Lending
 pub mod Entries

@@ -13,7 +13,7 @@ use Rattle.model.specs.declared.Given.the-variants.{Value, Absent}
 use Rattle.model.specs.declared.Item.{Item}
 use Rattle.model.specs.Limits.{maxRanks, maxCells, maxRegisters, maxQueues, maxStates, shortTransitions, maxTransitions, longCount, maxItems, byteValues}
 use Rattle.model.specs.Refusals.{ok, programLength, programRange, recordLength, recordRange}
-use Rattle.model.specs.Choice.{between, bit, Each, all, one}
+use Rattle.model.specs.Choice.{between, bit, Each}
 use Rattle.model.specs.Bytes.{AreBytes, here, byte, word, judged, optional, times}
 use Rattle.model.specs.ItemKinds.{itemKinds, hasPlace, Part, command, fetch, delivery, partOf}
 use Rattle.model.specs.Programs.{Program, HeaderFits, headerNumber, countByte, transitionCount, readHeaderIn, readHeader, readTransition, programReaderIn, programReader, readProgramIn, readProgram}
@@ -21,7 +21,7 @@ use Rattle.model.specs.Formats.{HasMap, itemMaps}
 use Rattle.model.specs.Records.{field, lowByte, highByte, givenValue, itemFields, readItemIn, readItem, recordReaderIn, recordReader, readRecordIn, readRecord}
 use Rattle.model.specs.Replay.{every}
 use Rattle.model.specs.Traces.{ChosenIn, GivenIn, InRecord}
-use Rattle.model.proofs.Laws.{and-true, decided, Within, between-true}
+use Rattle.model.proofs.Laws.{and-true, decided, Within, between-true, each-weaker}
 use Rattle.model.proofs.Bytes.{Finds, finds-anything, finds-pure, finds-bind, finds-judged, finds-optional, finds-times, finds-word, whole-finds, finds-weaker}
 use Rattle.model.proofs.Tables.{everyRow}
 use Rattle.model.proofs.ItemForms.{each-map, form-finds}
@@ -186,15 +186,10 @@ ranged-in-record bound r =
       given = r .given bound;
     }
 
-each-in-record : {header : Header} {bytes : List ℕ} {items : List Item} → AreBytes bytes → Each (Ranged header bytes) items →
-    Each (InRecord header) items
-each-in-record bound all = all
-each-in-record bound (one r rest) = one (ranged-in-record bound r) (each-in-record bound rest)
-
 pub read-in-record : (header : Header) (bytes : List ℕ) {items : List Item} → AreBytes bytes → readRecord header bytes ≡ ok items →
     Each (InRecord header) items
 unfolding readRecordIn recordReaderIn
 read-in-record header bytes bound h =
-    each-in-record bound
+    each-weaker (λ i. ranged-in-record bound)
     (whole-finds recordLength (recordReader header) bytes (Each (Ranged header bytes))
     (finds-bind (finds-anything (judged (λ n. leb n maxItems) recordRange (word recordLength))) λ count _. finds-times count (item-finds header)) h)

@@ -2,17 +2,17 @@
 -- what a load reads.
 use Prim.Native.Nat.{ℕ, suc, _+_}
 use native.Mathlib.Numerals.{add-one}
-use mathlib.Core.Path.{_≡_, refl, sym, _∙_, ap, ap₂, fun-ext, subst}
+use mathlib.Core.Path.{_≡_, refl, sym, _∙_, ap, ap₂, subst}
 use mathlib.Core.Bool.{true, false, _&&_, false≢true}
 use lib.Dec.{eqb}
 use borrow.Author.Tests.{eqb-true, eqb-false}
 use Rattle.model.specs.ItemKinds.{isCommandPart}
 use Rattle.model.specs.Programs.{Program}
-use Rattle.model.specs.Machine.{State, put, put₂, moveTo, setCell, setRequests, setDeliveries, Action, loads, stores, assigns, passes, issues, meets}
+use Rattle.model.specs.Machine.{State, moveTo, setCell, setRequests, setDeliveries, Action, loads, stores, assigns, passes, issues, meets}
 use Rattle.model.specs.Replay.{Origin, Event, Replay, accessOf, perform, originOf}
 use Rattle.model.specs.HappensBefore.{isCommand, rankOf}
 use Rattle.model.specs.Traces.{commandOf}
-use Rattle.model.proofs.Laws.{and-true, eqb-refl, put-same, put-other, put₂-other}
+use Rattle.model.proofs.Laws.{and-true, put-same, put-other, put₂-row, put₂-other-row}
 use Rattle.record_facts.specs.Facts.{Local, registersAfter, CommandStep}
 use Rattle.record_facts.proofs.Moves.{Move, commands, fetches, delivers}
 
@@ -20,22 +20,14 @@ use Rattle.record_facts.proofs.Moves.{Move, commands, fetches, delivers
 abbrev pub localOf : Replay → (rank : ℕ) → Local
 localOf s rank = record { control = s .machine .control rank; registers = s .machine .registers rank }
 
--- A row of a table, where a value of another row changes, and where one of its own does.
-row-other : (f : ℕ → ℕ → ℕ) (i j v k : ℕ) → ¬ (k ≡ i) → put₂ f i j v k ≡ f k
-row-other f i j v k other = fun-ext λ l. put₂-other f i j v k l (λ same. other (same .0))
-
-row-own : (f : ℕ → ℕ → ℕ) (i j v : ℕ) → put₂ f i j v i ≡ put (f i) j v
-unfolding put put₂
-row-own f i j v = fun-ext λ l. rw (eqb-refl i)
-
 -- What the action of a command does to the local states: it keeps the control states and the registers of all other ranks, and changes its own
 -- rank's registers as its action says; `value` is what it loads, if it does.
 module _ (own : ℕ) (origin : Origin) where
   registers-kept : (a : Action) (s : State Origin) (rank : ℕ) → ¬ (rank ≡ own) → perform own origin a s .registers rank ≡ s .registers rank
   unfolding perform
-  registers-kept (loads x c) s rank other = row-other (s .registers) own x (s .cells own c) rank other
+  registers-kept (loads x c) s rank other = put₂-other-row (s .registers) own x (s .cells own c) rank other
   registers-kept (stores c v) s rank other = refl
-  registers-kept (assigns x v) s rank other = row-other (s .registers) own x v rank other
+  registers-kept (assigns x v) s rank other = put₂-other-row (s .registers) own x v rank other
   registers-kept passes s rank other = refl
   registers-kept (issues q remote source destination) s rank other = refl
   registers-kept meets s rank other = refl
@@ -53,9 +45,9 @@ module _ (own : ℕ) (origin : Origin) where
       (value : ℕ) × (accessOf own a (s .cells) ≡ accessOf own a (λ rank cell. value)) ×
       (perform own origin a s .registers own ≡ registersAfter a value (s .registers own))
   unfolding perform accessOf registersAfter
-  registers-moved (loads x c) s = (s .cells own c, refl, row-own (s .registers) own x (s .cells own c))
+  registers-moved (loads x c) s = (s .cells own c, refl, put₂-row (s .registers) own x (s .cells own c))
   registers-moved (stores c v) s = (0, refl, refl)
-  registers-moved (assigns x v) s = (0, refl, row-own (s .registers) own x v)
+  registers-moved (assigns x v) s = (0, refl, put₂-row (s .registers) own x v)
   registers-moved passes s = (0, refl, refl)
   registers-moved (issues q remote source destination) s = (0, refl, refl)
   registers-moved meets s = (0, refl, refl)

@@ -1,12 +1,9 @@
 -- "each transition number has one form" (document 02, #107), and so has each item: the bytes that are read as an item are the ones that `itemBytes`
 -- says, so two item byte strings that read as the same item are the same bytes (`one-form`).
---
--- What was read at a place stands there: the bytes from the place on are some bytes that hold of the value, and behind them those from the next place
--- on. There is a rule for each way in which readers are put together.
 use Prim.Native.Nat.{ℕ, _+_, _*_, _/_, _%_, _<_}
-use mathlib.Core.Path.{_≡_, refl, sym, ap, subst, _∙_}
-use mathlib.Core.Bool.{Bool, true, false, not, _&&_}
-use mathlib.Core.List.{List, [], _∷_, _++_, append-nil, append-assoc}
+use mathlib.Core.Path.{_≡_, refl, sym, ap, _∙_}
+use mathlib.Core.Bool.{Bool, true, false, _&&_}
+use mathlib.Core.List.{List, [], _∷_, _++_, append-nil}
 use native.Mathlib.Nat.{mod-eq-of-lt}
 use native.Mathlib.Omega.{arith}
 use lib.Arith.{digits-div, digits-mod}
@@ -14,127 +11,29 @@ use lib.Dec.{ltb, leb, eqb}
 use lib.ListN.{length, drop}
 use lib.Seq.{drop-length}
 use borrow.Author.Tests.{eqb-true, ltb-true, lt-ltb, le-leb, lt-leb}
 use Rattle.model.specs.declared.Given.{Given}
 use Rattle.model.specs.declared.Given.the-variants.{Value, Absent}
 use Rattle.model.specs.declared.Header.{Header}
 use Rattle.model.specs.declared.Item.{Item}
 use Rattle.model.specs.declared.ItemForm.{ItemForm}
 use Rattle.model.specs.declared.Kind.{Kind}
 use Rattle.model.specs.Limits.{byteValues}
 use Rattle.model.specs.Refusals.{ok, recordLength, recordRange}
 use Rattle.model.specs.Choice.{between, bit}
-use Rattle.model.specs.Bytes.{AreBytes, Found, found, Reader, _>>=_, pure, here, byte, word, wordBytes, judged, optional}
-use Rattle.model.specs.ItemKinds.{kindNumber, itemKinds, hasPlace, isCommandKind}
+use Rattle.model.specs.Bytes.{AreBytes, Found, found, wordBytes, judged, optional}
+use Rattle.model.specs.ItemKinds.{kindNumber, itemKinds}
 use Rattle.model.specs.Formats.{HasMap, itemMaps}
 use Rattle.model.specs.ItemForms.{FormIs, good, unknown-kind, wrong-map, judgedItemForm}
 use Rattle.model.specs.Records.{field, lowByte, highByte, givenValue, itemFields, readItemIn, readItem}
 use Rattle.model.specs.Replay.{every}
-use Rattle.model.proofs.Laws.{ok-injective, bind-ok, refused≢ok, and-true, between-true}
-use Rattle.model.proofs.Bytes.{judged-ok}
-use Rattle.model.proofs.Standing.{byte-stands, word-stands}
+use Rattle.model.proofs.Laws.{refused≢ok, and-true, between-true}
 use Rattle.model.proofs.Tables.{everyRow}
 use Rattle.model.proofs.ItemForms.{today-maps, form-is, each-map}
+use Rattle.record_bytes.specs.RecordBytes.{part, isGiven, givenBytes, mapOf, itemMap, fieldBytes, itemBytes}
+use Rattle.record_bytes.proofs.Spans.{Spans, OneByte, spans-weaker, spans-pure, spans-bind, spans-here, spans-judged, spans-part, spans-byte, spans-word}
 
--- A map bit's part of the map, and a field's part of the item.
-abbrev flag : Bool → ℕ → ℕ
-flag true n = n
-flag false n = 0
-
-abbrev part : Bool → List ℕ → List ℕ
-part true bytes = bytes
-part false bytes = []
-
-abbrev isGiven : Given → Bool
-isGiven (Value v) = true
-isGiven Absent = false
-
-abbrev givenBytes : Given → List ℕ
-givenBytes (Value v) = wordBytes v
-givenBytes Absent = []
-
--- The one map of an item of this kind: a rank; a transition or a queue; a place where the kind has one; a value if it gives one; a remote rank if it
--- names one; and a high byte if the transition's number needs it.
-abbrev mapOf : Kind → (valued named high : Bool) → ℕ
-mapOf kind valued named high =
-    1 + flag (isCommandKind kind) 2 + flag (not (isCommandKind kind)) 4 + flag (hasPlace kind) 24 + flag valued 32 + flag named 64 + flag high 128
-
-abbrev itemMap : Item → ℕ
-itemMap i = mapOf (i .kind) (isGiven (i .given)) (ltb 0 (i .remote)) (leb byteValues (i .transition))
-
--- The bytes of an item, by its map.
-abbrev fieldBytes : (map : ℕ) → Item → List ℕ
-fieldBytes map i =
-    part (bit 0 map) (i .rank ∷ []) ++
-    (part (bit 1 map) (i .transition % byteValues ∷ []) ++
-    (part (bit 2 map) (i .queue ∷ []) ++
-    (part (bit 3 map) (i .place .rank ∷ []) ++
-    (part (bit 4 map) (wordBytes (i .place .cell)) ++
-    (givenBytes (i .given) ++
-    (part (bit 6 map) (i .remote ∷ []) ++
-    part (bit 7 map) (i .transition / byteValues ∷ [])))))))
-
-unfoldable pub itemBytes : Item → List ℕ
-itemBytes i = itemMap i ∷ kindNumber (i .kind) ∷ fieldBytes (itemMap i) i
-
--- What is found at a place, and the bytes that it stands in.
-record Spans (bytes : List ℕ) {A : Type 0} (read : Reader A) (Stands : A → List ℕ → Type 0) : Type 0 where
-  spans : (at : ℕ) (f : Found A) → read bytes at ≡ ok f → (out : List ℕ) × (drop at bytes ≡ out ++ drop (f .next) bytes) × Stands (f .value) out
-
-module _ {bytes : List ℕ} where
-  spans-weaker : {A : Type 0} {read : Reader A} {Stands Weaker : A → List ℕ → Type 0} → Spans bytes read Stands →
-      ((a : A) (out : List ℕ) → Stands a out → Weaker a out) → Spans bytes read Weaker
-  spans-weaker first weaker =
-      record { spans = λ at f h. let (out, stands, holds) = first .spans at f h in (out, stands, weaker (f .value) out holds) }
-
-  spans-pure : {A : Type 0} {Stands : A → List ℕ → Type 0} (a : A) → Stands a [] → Spans bytes (pure a) Stands
-  spans-pure {A} {Stands} a holds =
-      record {
-        spans =
-            λ at f h.
-            let is = ok-injective h in
-            ([], ap (λ (f : Found A). drop (f .next) bytes) is, subst (λ (f : Found A). Stands (f .value) []) is holds);
-      }
-
-  spans-bind : {A B : Type 0} {read : Reader A} {rest : A → Reader B} {First : A → List ℕ → Type 0} {Stands : B → List ℕ → Type 0} →
-      Spans bytes read First → ((a : A) (out : List ℕ) → First a out → Spans bytes (rest a) (λ b more. Stands b (out ++ more))) →
-      Spans bytes (read >>= rest) Stands
-  spans-bind {read = read} first then =
-      record {
-        spans =
-            λ at g h.
-            let (f, e, h₁) = bind-ok (read bytes at) _ h in
-            let (out, stands, holds) = first .spans at f e in
-            let (more, behind, all) = then (f .value) out holds .spans (f .next) g h₁ in
-            (out ++ more, stands ∙ ap (λ l. out ++ l) behind ∙ sym (append-assoc out more (drop (g .next) bytes)), all);
-      }
-
-  spans-here : Spans bytes here (λ at out. out ≡ [])
-  spans-here =
-      record { spans = λ at f h. ([], ap (λ (f : Found ℕ). drop (f .next) bytes) (ok-injective h), refl) }
-
-  spans-judged : (test : ℕ → Bool) (number : ℕ) {read : Reader ℕ} {Stands : ℕ → List ℕ → Type 0} → Spans bytes read Stands →
-      Spans bytes (judged test number read) (λ v out. (test v ≡ true) × Stands v out)
-  spans-judged test number {read} first =
-      record {
-        spans =
-            λ at f h.
-            let (e, passes) = judged-ok test number read bytes at h in
-            let (out, stands, holds) = first .spans at f e in
-            (out, stands, (passes, holds));
-      }
-
-  -- A field that its map bit leaves out has no bytes.
-  spans-part : {A : Type 0} (present : Bool) (absent : A) (written : A → List ℕ) {read : Reader A} →
-      Spans bytes read (λ v out. out ≡ written v) → Spans bytes (optional present absent read) (λ v out. out ≡ part present (written v))
-  spans-part true absent written first = first
-  spans-part false absent written first = spans-pure absent refl
-
--- What is said of a byte; of the low byte, whole number or not; of the value and of the remote rank, whose bit stands exactly if there is one; and of
+-- What is said of the low byte, whole number or not; of the value and of the remote rank, whose bit stands exactly if there is one; and of
 -- the transition's number: its low byte is the one that was read, and bit 7 stands exactly if it does not fit a byte.
-record OneByte (v : ℕ) (out : List ℕ) : Type 0 where
-  stands : out ≡ v ∷ []
-  small : v < byteValues
-
 record Low (present : Bool) (low : ℕ) (out : List ℕ) : Type 0 where
   stands : out ≡ part present (low ∷ [])
   small : low < byteValues
@@ -174,21 +73,9 @@ own-map {map} i has valued named high =
     ap {B = List ℕ} (λ m. m ∷ kindNumber (i .kind) ∷ fieldBytes m i) (map-is has ∙ same)
 
 module _ (bytes : List ℕ) (bound : AreBytes bytes) where
-  spans-byte : (early : ℕ) → Spans bytes (byte early) OneByte
-  spans-byte early =
-      record {
-        spans =
-            λ at f h.
-            let is = byte-stands early bytes at h in
-            (f .value ∷ [], is .stands, record { stands = refl; small = rw (is .value) (bound at) });
-      }
-
-  spans-word : (early : ℕ) → Spans bytes (word early) (λ v out. out ≡ wordBytes v)
-  spans-word early = record { spans = λ at f h. (wordBytes (f .value), word-stands early bytes at bound h, refl) }
-
   spans-field : (test : ℕ → Bool) → Spans bytes (field test) (λ v out. (test v ≡ true) × OneByte v out)
   unfolding field
-  spans-field test = spans-judged test recordRange (spans-byte recordLength)
+  spans-field test = spans-judged test recordRange (spans-byte bound recordLength)
 
   one-byte : (present : Bool) (test : ℕ → Bool) → Spans bytes (optional present 0 (field test)) (λ v out. out ≡ part present (v ∷ []))
   one-byte present test = spans-part present 0 (λ v. v ∷ []) (spans-weaker (spans-field test) λ v out is. is .1 .stands)
@@ -196,7 +83,7 @@ module _ (bytes : List ℕ) (bound : AreBytes bytes) where
   spans-low : (present high : Bool) (transitions : ℕ) → Spans bytes (optional present 0 (lowByte high transitions)) (Low present)
   unfolding lowByte
   spans-low true true transitions =
-      spans-weaker (spans-byte recordLength) λ v out is. record { stands = is .stands; small = is .small }
+      spans-weaker (spans-byte bound recordLength) λ v out is. record { stands = is .stands; small = is .small }
   spans-low true false transitions =
       spans-weaker (spans-field (λ t. ltb t transitions)) λ v out is. record { stands = is .1 .stands; small = is .1 .small }
   spans-low false high transitions = spans-pure 0 (record { stands = refl; small = omega arith })
@@ -204,7 +91,7 @@ module _ (bytes : List ℕ) (bound : AreBytes bytes) where
   spans-given : (present : Bool) → Spans bytes (optional present Absent givenValue) (GivenStands present)
   unfolding givenValue
   spans-given true =
-      spans-bind (spans-word recordLength) λ v out is.
+      spans-bind (spans-word bound recordLength) λ v out is.
       spans-pure (Value v) (record { stands = append-nil out ∙ is; told = refl })
   spans-given false = spans-pure Absent (record { stands = refl; told = refl })
 
@@ -239,7 +126,7 @@ module _ (bytes : List ℕ) (bound : AreBytes bytes) where
       spans-bind (one-byte (bit 3 map) (between 1 (header .ranks))) λ place-rank out₃ is-place-rank.
       spans-bind
       (spans-part (bit 4 map) 0 wordBytes
-      (spans-weaker (spans-judged (λ a. ltb a (header .cells)) recordRange (spans-word recordLength)) λ v out is. is .1)) λ place-cell out₄ is-cell.
+      (spans-weaker (spans-judged (λ a. ltb a (header .cells)) recordRange (spans-word bound recordLength)) λ v out is. is .1)) λ place-cell out₄ is-cell.
       spans-bind (spans-given (bit 5 map)) λ given out₅ is-given.
       spans-bind (spans-remote (bit 6 map) (header .ranks)) λ remote out₆ is-remote.
       spans-bind (spans-number (bit 7 map) (header .transitions) low (is-low .small)) λ transition out₇ is-number.
@@ -281,8 +168,8 @@ module _ (bytes : List ℕ) (bound : AreBytes bytes) where
   unfolding readItemIn
   item-spans header =
       spans-bind spans-here λ at out₀ is-none.
-      spans-bind (spans-byte recordLength) λ map out₁ is-map.
-      spans-bind (spans-byte recordLength) λ number out₂ is-number.
+      spans-bind (spans-byte bound recordLength) λ map out₁ is-map.
+      spans-bind (spans-byte bound recordLength) λ number out₂ is-number.
       spans-bind (spans-verdict at (form-is today-maps map number)) λ kind out₃ judged.
       spans-weaker (spans-fields header (judged .has)) λ i out is.
       rw (is-none, is-map .stands, is-number .stands, judged .none, ← judged .same) is

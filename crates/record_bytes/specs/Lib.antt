@@ -1,0 +1,2 @@
+-- The writer of records.
+pub mod RecordBytes
