@@ -16,9 +16,9 @@ use Rattle.model.specs.ItemKinds.{isBar}
 use Rattle.model.specs.Programs.{Program, Command, kindOf}
 use Rattle.model.specs.Machine.{Start, moveTo}
 use Rattle.model.specs.Rules.{Bare, Label, command, Rank, Enabled, Step, Run, stop, _then_, Recorded, AllRecorded, all, one, Final, IsRun}
-use Rattle.model.specs.Replay.{Replay, Replayed, Taken, accessOf, begin, rowAllows, takeItems, atEnd, replay}
+use Rattle.model.specs.Replay.{Replay, Replayed, Taken, accessOf, begin, rowAllows, takeItems, replay}
 use Rattle.model.proofs.Replay.{ItemTaken, takes-item}
-use Rattle.model.proofs.Appending.{joined, takeItems-append}
+use Rattle.model.proofs.TakenItems.{joined, takeItems-append, taken-replay}
 use Rattle.model.proofs.Laws.{decided, when-true, when-false}
 use Rattle.model.proofs.Actions.{loading, storing, assigning, passing, reading, writing, meeting}
 use Rattle.acceptance.specs.Bare.{bare}
@@ -165,8 +165,8 @@ module _ (P : Program) where
 -- A run from a start is accepted, and leaves the run's last state.
 pub run-accepted : (P : Program) (start : Start) (items : List Item) (last : Bare) → IsRun P start items last →
     (r : Replayed) × (replay P start items ≡ ok r) × (bare (r .last .machine) ≡ last)
-unfolding replay atEnd begin bare
+unfolding begin bare
 run-accepted P start items last h =
     let t : TakesAll P (begin start) items last = run-taken P (h .run) (begin start) refl refl (h .recorded) in
     let silent = final-quiet P (t .replayed .last .machine) (subst (Final P) (sym (t .state)) (h .final)) in
-    (t .replayed, rw (t .takes 0, eq-eqb (t .replayed .last .row) 0 (t .row), silent) refl, t .state)
+    (t .replayed, taken-replay P start items (t .takes 0) (record { no-row = t .row; all-quiet = silent }), t .state)

@@ -6,20 +6,20 @@ use mathlib.Core.Bool.{true, false}
 use mathlib.Core.List.{List, [], _∷_, _++_}
 use mathlib.Core.Option.{none}
 use lib.Dec.{eqb}
-use lib.ListN.{length}
 use lib.Seq.{append-snoc}
 use borrow.Author.Tests.{eqb-true}
 use Rattle.model.specs.declared.Kind.the-variants.{Bar}
 use Rattle.model.specs.declared.Item.{Item}
-use Rattle.model.specs.Refusals.{ok, barrierRow, queuesLeft}
+use Rattle.model.specs.Refusals.{ok}
 use Rattle.model.specs.Choice.{numbersFrom, Each}
 use Rattle.model.specs.ItemKinds.{isBar}
 use Rattle.model.specs.Programs.{Program, Command}
 use Rattle.model.specs.Machine.{Start, moveTo}
 use Rattle.model.specs.Rules.{Bare, Label, command, Enabled, Step, Run, stop, _then_, Recorded, AllRecorded, all, one, IsRun}
-use Rattle.model.specs.Replay.{Replay, Taken, Replayed, begin, takeItem, takeItems, quiet, atEnd, replay}
+use Rattle.model.specs.Replay.{Replay, Taken, Replayed, begin, takeItem, takeItems, replay}
 use Rattle.model.proofs.Replay.{ItemTaken, item-taken}
-use Rattle.model.proofs.Laws.{bind-ok, required, ok-injective, decided, when-true, when-false}
+use Rattle.model.proofs.TakenItems.{replay-taken}
+use Rattle.model.proofs.Laws.{bind-ok, ok-injective, decided, when-true, when-false}
 use Rattle.acceptance.specs.Bare.{bare}
 use Rattle.acceptance.specs.Ranges.{InRange}
 use Rattle.acceptance.proofs.Quiet.{quiet-final}
@@ -137,11 +137,8 @@ module _ (P : Program) where
 -- An accepted list of items is a run.
 pub accepted-run : (P : Program) (start : Start) (items : List Item) (r : Replayed) → Each (InRange P) items → replay P start items ≡ ok r →
     IsRun P start items (bare (r .last .machine))
-unfolding replay atEnd begin bare
+unfolding begin bare
 accepted-run P start items r ranges h =
-    let (t, taken, done) = bind-ok (takeItems P (begin start) 0 items) _ h in
-    let (row, quiet-left) = required (eqb (t .last .row) 0) barrierRow (length items) _ done in
-    let (silent, whole) = required (quiet P (t .last .machine)) queuesLeft (length items) _ quiet-left in
-    let c = fresh P (items-walked P items ranges) (begin start) 0 t refl taken (eqb-true (t .last .row) 0 row) in
-    subst (λ (x : Replayed). IsRun P start items (bare (x .last .machine))) (ok-injective whole)
-    (record { events = c .events; recorded = c .recorded; run = c .run; final = quiet-final P (t .last .machine) silent })
+    let (taken, ended) = replay-taken P start items h in
+    let c = fresh P (items-walked P items ranges) (begin start) 0 r refl taken (ended .no-row) in
+    record { events = c .events; recorded = c .recorded; run = c .run; final = quiet-final P (r .last .machine) (ended .all-quiet) }

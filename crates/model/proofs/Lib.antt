@@ -19,7 +19,7 @@ pub mod Ranges
 pub mod Actions
 pub mod Replay
 pub mod Erasing
-pub mod Appending
+pub mod TakenItems
 pub mod Accepted
 pub mod Lending
 pub mod Entries

@@ -6,14 +6,14 @@ use mathlib.Core.Bool.{true}
 use mathlib.Core.List.{List, [], _∷_}
 use mathlib.Core.Option.{Option, some, none, Option·none-ne-some, Option·some-injective}
 use native.Mathlib.Omega.{arith}
-use lib.Dec.{eqb, leb}
+use lib.Dec.{leb}
 use lib.ListN.{length}
 use borrow.Author.Tests.{leb-true}
 use Rattle.model.specs.declared.Address.{Address}
 use Rattle.model.specs.declared.Header.{Header}
 use Rattle.model.specs.declared.Item.{Item}
 use Rattle.model.specs.Limits.{maxItems}
-use Rattle.model.specs.Refusals.{ok, barrierRow, queuesLeft, recordLength, recordRange}
+use Rattle.model.specs.Refusals.{ok, recordLength, recordRange}
 use Rattle.model.specs.Choice.{Each, all, one}
 use Rattle.model.specs.Bytes.{word, judged}
 use Rattle.model.specs.ItemKinds.{hasPlace}
@@ -22,10 +22,11 @@ use Rattle.model.specs.Records.{readItem, recordReaderIn, recordReader, readRec
 use Rattle.model.specs.Machine.{Access, Action, loads, stores, assigns, passes, issues, meets}
 use Rattle.model.specs.Machine.{Start, initial, moveTo, setRegister, setCell, setRequests, setDeliveries}
 use Rattle.model.specs.Replay.{Event, Replay, Taken, Replayed, joinsRow, openedAfter, originOf, accessOf, perform}
-use Rattle.model.specs.Replay.{takeItem, takeItems, sameAddress, agreesWith, begin, quiet, atEnd, replay}
+use Rattle.model.specs.Replay.{takeItem, takeItems, sameAddress, agreesWith, begin, replay}
 use Rattle.model.specs.HappensBefore.{At, rankOf}
 use Rattle.model.specs.Checks.{Accepted, accept}
-use Rattle.model.proofs.Laws.{Within, decided, and-true, bind-ok, required, ok-injective, put₂-holds}
+use Rattle.model.proofs.Laws.{Within, decided, and-true, bind-ok, ok-injective, put₂-holds}
+use Rattle.model.proofs.TakenItems.{replay-taken}
 use Rattle.model.proofs.Accepted.{accepted-parts}
 use Rattle.model.proofs.Bytes.{finds-anything, finds-bind, finds-judged, finds-times, finds-counted, finds-weaker, whole-finds}
 use Rattle.model.proofs.Ranges.{Ranged, item-finds, header-fits}
@@ -236,14 +237,10 @@ module _ (P : Program) {bytes : List ℕ} where
   -- An accepted list of items that were read.
   pub replayed-bounds : (start : Start) (items : List Item) {run : Replayed} → Each (Ranged (P .header) bytes) items →
       replay P start items ≡ ok run → Bounds (P .header) 0 (length items) run
-  unfolding replay atEnd begin initial
+  unfolding begin initial
   replayed-bounds start items ranged h =
-      let (r, taken, ended) = bind-ok (takeItems P (begin start) 0 items) _ h in
-      let row = required (eqb (r .last .row) 0) barrierRow (length items) _ ended in
-      let queues = required (quiet P (r .last .machine)) queuesLeft (length items) _ (row .1) in
-      rw (← (ok-injective (queues .1)))
-      (walked (begin start) 0 items ranged
-      (record { requests = λ rank queue. all; deliveries = λ rank queue. all; row = λ h. omega arith }) taken)
+      walked (begin start) 0 items ranged
+      (record { requests = λ rank queue. all; deliveries = λ rank queue. all; row = λ h. omega arith }) (replay-taken P start items h .0)
 
 -- The items that were read: in their ranges, and no more than a record has.
 module _ (header : Header) (bytes : List ℕ) where

@@ -16,7 +16,7 @@ use Rattle.record_facts.proofs.Trajectory.{Run, begins, grows, move-at}
 use Rattle.record_facts.proofs.Appended.{cells-snoc}
 
 -- An action writes its access.
-performed-cells : (rank : ℕ) (origin : Origin) (a : Action) (s : State Origin) →
+pub performed-cells : (rank : ℕ) (origin : Origin) (a : Action) (s : State Origin) →
     perform rank origin a s .cells ≡ written (s .cells) (accessOf rank a (s .cells))
 unfolding perform accessOf written
 performed-cells rank origin (loads x c) s = refl

@@ -23,7 +23,7 @@ localOf s rank = record { control = s .machine .control rank; registers = s .mac
 -- What the action of a command does to the local states: it keeps the control states and the registers of all other ranks, and changes its own
 -- rank's registers as its action says; `value` is what it loads, if it does.
 module _ (own : ℕ) (origin : Origin) where
-  registers-kept : (a : Action) (s : State Origin) (rank : ℕ) → ¬ (rank ≡ own) → perform own origin a s .registers rank ≡ s .registers rank
+  pub registers-kept : (a : Action) (s : State Origin) (rank : ℕ) → ¬ (rank ≡ own) → perform own origin a s .registers rank ≡ s .registers rank
   unfolding perform
   registers-kept (loads x c) s rank other = put₂-other-row (s .registers) own x (s .cells own c) rank other
   registers-kept (stores c v) s rank other = refl
@@ -32,7 +32,7 @@ module _ (own : ℕ) (origin : Origin) where
   registers-kept (issues q remote source destination) s rank other = refl
   registers-kept meets s rank other = refl
 
-  control-kept : (a : Action) (s : State Origin) → perform own origin a s .control ≡ s .control
+  pub control-kept : (a : Action) (s : State Origin) → perform own origin a s .control ≡ s .control
   unfolding perform
   control-kept (loads x c) s = refl
   control-kept (stores c v) s = refl

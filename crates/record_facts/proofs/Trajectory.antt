@@ -11,18 +11,19 @@ use mathlib.Core.Bool.{true}
 use mathlib.Core.List.{List, [], _∷_, _++_, map, append-nil, append-assoc}
 use mathlib.Core.Option.{Option·none-ne-some}
 use mathlib.Core.Logic.{_⊎_, inl, inr}
-use lib.Dec.{leb, eqb}
-use lib.ListN.{length, take}
-use borrow.Author.Tests.{leb-true, le-leb, eqb-true}
+use lib.Dec.{leb}
+use lib.ListN.{take}
+use borrow.Author.Tests.{leb-true, le-leb}
 use Rattle.model.specs.declared.Item.{Item}
-use Rattle.model.specs.Refusals.{ok, barrierRow, queuesLeft}
+use Rattle.model.specs.Refusals.{ok}
 use Rattle.model.specs.Choice.{when, Each, all, one}
 use Rattle.model.specs.Programs.{Program}
 use Rattle.model.specs.Machine.{Start}
-use Rattle.model.specs.Replay.{Event, Replay, Replayed, begin, takeItem, takeItems, quiet, atEnd, replay}
+use Rattle.model.specs.Replay.{Event, Replay, Replayed, begin, takeItem, takeItems, quiet, replay}
 use Rattle.model.specs.HappensBefore.{At}
 use Rattle.model.specs.Traces.{InRecord, commandOf}
-use Rattle.model.proofs.Laws.{ok-injective, bind-ok, required, decided}
+use Rattle.model.proofs.Laws.{ok-injective, bind-ok, decided}
+use Rattle.model.proofs.TakenItems.{replay-taken}
 use Rattle.record_facts.specs.Facts.{Local, initialLocal}
 use Rattle.record_facts.proofs.Moves.{Move, item-taken}
 use Rattle.record_facts.proofs.Locals.{localOf, Kept, local-kept, count-up}
@@ -115,21 +116,17 @@ pub record AcceptedRun (P : Program) (start : Start) (items : List Item) (run : 
 -- The run of an accepted list.
 pub accepted : (P : Program) (start : Start) (items : List Item) (run : Replayed) → Each (InRecord (P .header)) items →
     replay P start items ≡ ok run → AcceptedRun P start items run
-unfolding replay atEnd begin
+unfolding begin
 accepted P start items run within h =
-    let (r, taken, ended) = bind-ok (takeItems P (begin start) 0 items) _ h in
-    let row = required (eqb (r .last .row) 0) barrierRow (length items) _ ended in
-    let queues = required (quiet P (r .last .machine)) queuesLeft (length items) _ (row .1) in
-    let same : r ≡ run = ok-injective (queues .1) in
-    let (p, items-of) = path P (begin start) 0 items r within taken in
-    rw (← same)
-    (record {
+    let (taken, ended) = replay-taken P start items h in
+    let (p, items-of) = path P (begin start) 0 items run within taken in
+    record {
       local = foretold p;
       whole = follow (begins (foretold-now p)) p (λ rank count h. refl);
       items-of = items-of;
-      no-row = eqb-true (r .last .row) 0 (row .0);
-      all-quiet = queues .0;
-    })
+      no-row = ended .no-row;
+      all-quiet = ended .all-quiet;
+    }
 
 -- A numbered member of a list with one more at its end is an old one or the new one.
 abbrev pub SnocAt : (done : List Event) (x : Event) (i : ℕ) (e : Event) → Type 0

@@ -141,7 +141,7 @@ module _ {P : Program} {start start′ : Start} {items items′ : List Item} {ru
       ap (λ n. length (select (barTransition P) (take n (transitionsOf (rankOf (w .y)) (run′ .events))))) (w .same .place) ∙
       sym (bars-before f′ (w .j) (w .y) (w .second) (twin-command w c))
 
-  same-transition : w .x .item .transition ≡ w .y .item .transition
+  pub same-transition : w .x .item .transition ≡ w .y .item .transition
   same-transition =
       Option·some-injective _ _
       (sym (transition-at f (w .i) (w .x) (w .first) c) ∙

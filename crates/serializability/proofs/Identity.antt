@@ -82,11 +82,11 @@ pub record Completed (events : List Event) (e : Event) : Type 0 where
   pub delivery-of : PopOf Popb e b
 
 -- An event's place in its group, and back.
-in-group : (events : List Event) (g i : ℕ) (x : Event) → At events i x → x .group ≡ g →
+pub in-group : (events : List Event) (g i : ℕ) (x : Event) → At events i x → x .group ≡ g →
     At (groupEvents g events) (length (select (inGroup g) (take i events))) x
 in-group events g i x at e = select-at (inGroup g) events i at (eq-eqb (x .group) g e)
 
-from-group : (events : List Event) (g k : ℕ) {x : Event} → At (groupEvents g events) k x → Selected (inGroup g) events k x
+pub from-group : (events : List Event) (g k : ℕ) {x : Event} → At (groupEvents g events) k x → Selected (inGroup g) events k x
 from-group events g k h = select-from (inGroup g) events k h
 
 -- What stands earlier in a group stands earlier.
