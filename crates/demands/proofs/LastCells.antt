@@ -2,25 +2,16 @@
 -- as a rank has cells.
 use Prim.Native.Nat.{ℕ, zero, suc, _+_, _-_, _*_, _<_}
 use mathlib.Core.Path.{_≡_, refl, sym, ap, ap₂, _∙_}
-use mathlib.Core.List.{List, [], _∷_, _++_, map}
-use mathlib.Core.Option.{some, Option·none-ne-some}
+use mathlib.Core.List.{List, [], _∷_, map}
+use mathlib.Core.Option.{some}
 use native.Mathlib.Nat.{not-suc-le-zero, suc-mul, zero-mul}
 use native.Mathlib.Omega.{arith}
 use lib.ListN.{length, getElem?, length-append, length-map}
 use Rattle.model.specs.Choice.{numbersFrom}
 use Rattle.model.specs.Checks.{forEachRank, rankByRank, lastCells, Accepted}
 use Rattle.model.specs.Rules.{Rank, Cell}
+use Rattle.model.proofs.Laws.{getElem?-front, getElem?-behind}
 use Rattle.demands.specs.Demands.{cellsOf}
-
--- A numbered member of two lists in a row.
-pub at-front : {A : Type 0} (l m : List A) (i : ℕ) {a : A} → getElem? l i ≡ some a → getElem? (l ++ m) i ≡ some a
-at-front [] m i h = absurd (Option·none-ne-some _ h)
-at-front (x ∷ l) m zero h = h
-at-front (x ∷ l) m (suc i) h = at-front l m i h
-
-at-behind : {A : Type 0} (l m : List A) (i : ℕ) → getElem? (l ++ m) (length l + i) ≡ getElem? m i
-at-behind [] m i = let z : 0 + i ≡ i = omega arith in rw z
-at-behind (x ∷ l) m i = let z : suc (length l) + i ≡ suc (length l + i) = omega arith in rw z (at-behind l m i)
 
 -- A list that a function of numbers makes.
 numbers-length : (first count : ℕ) → length (numbersFrom first count) ≡ count
@@ -63,11 +54,11 @@ module _ {A : Type 0} (count : ℕ) (f : ℕ → ℕ → A) where
       let z : 0 * count + cell ≡ cell = omega (arith, zero-mul count) in
       let n : first + 0 ≡ first = omega arith in
       let c : 0 + cell ≡ cell = omega arith in
-      rw (z, n) (at-front (row first) (others first ranks) cell (rw c at (at-number (f first) 0 count cell k)))
+      rw (z, n) (getElem?-front (row first) (others first ranks) cell (rw c at (at-number (f first) 0 count cell k)))
   at-row first (suc ranks) (suc i) cell h k =
       let z : suc i * count + cell ≡ length (row first) + (i * count + cell) = omega (arith, suc-mul i count, row-length first) in
       let n : first + suc i ≡ first + 1 + i = omega arith in
-      rw (z, n) (at-behind (row first) (others first ranks) (i * count + cell) ∙ at-row (first + 1) ranks i cell (omega arith) k)
+      rw (z, n) (getElem?-behind (row first) (others first ranks) (i * count + cell) ∙ at-row (first + 1) ranks i cell (omega arith) k)
 
 -- The last cells of an accepted record: how many they are, and where each one stands.
 module _ (a : Accepted) where

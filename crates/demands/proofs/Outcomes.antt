@@ -15,7 +15,7 @@ use Rattle.model.specs.Bytes.{AreBytes}
 use Rattle.model.specs.Rules.{Rank, Cell}
 use Rattle.model.specs.Orders.{Verdict, ordered, cyclic}
 use Rattle.model.specs.Checks.{accept, verdictOn, lastCells, Accepted, fill, Outcome, listed, answered, Verdicts, checkResultIn, checkResult}
-use Rattle.model.proofs.Laws.{bind-ok, required, ok-injective, refused≢ok}
+use Rattle.model.proofs.Laws.{bind-ok, required, ok-injective, refused≢ok, getElem?-front}
 use Rattle.ordering.proofs.Orders.{TopologicalOrder, ShortestRing, cycle-length}
 use Rattle.serializability.specs.Claim.{Serializable}
 use Rattle.demands.specs.Entries.{Form, entries, firstEntries}
@@ -23,7 +23,7 @@ use Rattle.demands.specs.Demands.{groupsOf, arrowsOf, cellsOf, Answerabl
 use Rattle.demands.specs.Demands.{Demand1, Demand2, Demand3, MeetsDemands}
 use Rattle.demands.proofs.Bytes.{accepted-iff-run, arrows-are-happens-before, order-forward, ring-shortest, accepted-serializable}
 use Rattle.demands.proofs.Entries.{written, capacity, entries-length, filled-entries, filled-reads, filled-untouched}
-use Rattle.demands.proofs.LastCells.{at-front, last-cells-length, last-cell-at}
+use Rattle.demands.proofs.LastCells.{last-cells-length, last-cell-at}
 use Rattle.demands.proofs.Refusals.{check-tabled}
 
 -- The result for lists of either form, and the outcome.
@@ -145,7 +145,7 @@ module _ (form : Form) (program start recorded order cells : List ℕ) (bytes : 
         getElem? (entries form (filled .cells)) ((rank - 1) * a .program .header .cells + cell) ≡ some (a .run .last .machine .cells rank cell)
     cell-read rank cell r c =
         rw (filled-entries form (lastCells a) cells)
-        (at-front (lastCells a) _ ((rank - 1) * a .program .header .cells + cell) (last-cell-at a rank cell r c))
+        (getElem?-front (lastCells a) _ ((rank - 1) * a .program .header .cells + cell) (last-cell-at a rank cell r c))
 
     cells-kept : Untouched form (cellsOf a) cells (filled .cells)
     cells-kept =

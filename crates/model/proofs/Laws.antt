@@ -1,11 +1,11 @@
 -- Laws about the definitions' building stones: results, tests, and functions with one value changed. A proof about a definition cites these instead
 -- of unfolding the same stones again.
-use Prim.Native.Nat.{ℕ, zero, suc, _<_, _≤_}
+use Prim.Native.Nat.{ℕ, zero, suc, _+_, _<_, _≤_}
 use mathlib.Core.Path.{_≡_, refl, sym, subst, _∙_, ap, fun-ext}
 use mathlib.Core.Bool.{Bool, true, false, _&&_, _||_, false≢true}
 use mathlib.Core.List.{List, [], _∷_, _++_}
 use mathlib.Core.Option.{Option, some, none, Option·none-ne-some}
-use native.Mathlib.Nat.{zero-lt-suc}
+use native.Mathlib.Nat.{zero-lt-suc, not-suc-le-zero, le-of-suc-le-suc}
 use native.Mathlib.Omega.{arith}
 use lib.Dec.{eqb, leb}
 use lib.ListN.{length, getElem?}
@@ -164,3 +164,18 @@ pub getElem?-bound : {A : Type 0} (l : List A) (i : ℕ) {a : A} → getElem? l 
 getElem?-bound [] i h = absurd (Option·none-ne-some _ h)
 getElem?-bound (x ∷ l) zero h = zero-lt-suc _
 getElem?-bound (x ∷ l) (suc i) h = omega (arith, getElem?-bound l i h)
+
+pub getElem?-below : {A : Type 0} (l : List A) (i : ℕ) → i < length l → (a : A) × (getElem? l i ≡ some a)
+getElem?-below [] i h = absurd (not-suc-le-zero h)
+getElem?-below (x ∷ l) zero h = (x, refl)
+getElem?-below (x ∷ l) (suc i) h = getElem?-below l i (le-of-suc-le-suc h)
+
+-- Those of two lists in a row.
+pub getElem?-front : {A : Type 0} (l m : List A) (i : ℕ) {a : A} → getElem? l i ≡ some a → getElem? (l ++ m) i ≡ some a
+getElem?-front [] m i h = absurd (Option·none-ne-some _ h)
+getElem?-front (x ∷ l) m zero h = h
+getElem?-front (x ∷ l) m (suc i) h = getElem?-front l m i h
+
+pub getElem?-behind : {A : Type 0} (l m : List A) (i : ℕ) → getElem? (l ++ m) (length l + i) ≡ getElem? m i
+getElem?-behind [] m i = let z : 0 + i ≡ i = omega arith in rw z
+getElem?-behind (x ∷ l) m i = let z : suc (length l) + i ≡ suc (length l + i) = omega arith in rw z (getElem?-behind l m i)

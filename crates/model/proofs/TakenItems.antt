@@ -16,6 +16,31 @@ use Rattle.model.specs.Replay.{Replay, Taken, Replayed, begin, takeItem,
 use Rattle.model.proofs.Laws.{bind-ok, required, ok-injective}
 use Rattle.model.proofs.Replay.{ItemTaken, commands, fetches, delivers, item-taken}
 
+-- An item's event, then those of the items after it.
+abbrev pub headed : Taken → Replayed → Replayed
+headed t r = record { last = r .last; events = t .event ∷ r .events }
+
+-- A list is taken if its first item is, and the others are from there.
+pub record Onward (P : Program) (s : Replay) (at : ℕ) (i : Item) (items : List Item) (run : Replayed) : Type 0 where
+  pub first : Taken
+  pub rest : Replayed
+  pub takes-first : takeItem P s at i ≡ ok first
+  pub takes-rest : takeItems P (first .state) (at + 1) items ≡ ok rest
+  pub is : headed first rest ≡ run
+
+pub taken-onward : (P : Program) (s : Replay) (at : ℕ) (i : Item) (items : List Item) {run : Replayed} → takeItems P s at (i ∷ items) ≡ ok run →
+    Onward P s at i items run
+unfolding takeItems
+taken-onward P s at i items h =
+    let (t, takes-first, h₁) = bind-ok (takeItem P s at i) _ h in
+    let (r, takes-rest, h₂) = bind-ok (takeItems P (t .state) (at + 1) items) _ h₁ in
+    record { first = t; rest = r; takes-first = takes-first; takes-rest = takes-rest; is = ok-injective h₂ }
+
+pub onward-taken : (P : Program) (s : Replay) (at : ℕ) (i : Item) (items : List Item) {t : Taken} {r : Replayed} → takeItem P s at i ≡ ok t →
+    takeItems P (t .state) (at + 1) items ≡ ok r → takeItems P s at (i ∷ items) ≡ ok (headed t r)
+unfolding takeItems
+onward-taken P s at i items first rest = rw (first, rest)
+
 -- The events of a replay are its items', in turn.
 pub event-item : {P : Program} {s : Replay} {i : Item} {t : Taken} → ItemTaken P s i t → t .event .item ≡ i
 event-item (commands t a c) = refl
@@ -27,18 +52,13 @@ pub taken-items : (P : Program) (s : Replay) (at : ℕ) (items : List Item) {r :
 unfolding takeItems
 taken-items P s at [] h = ap (λ (r : Replayed). map (λ e. e .item) (r .events)) (sym (ok-injective h))
 taken-items P s at (i ∷ items) h =
-    let (t, taken, h₁) = bind-ok (takeItem P s at i) _ h in
-    let (rest, all, h₂) = bind-ok (takeItems P (t .state) (at + 1) items) _ h₁ in
-    ap (λ (r : Replayed). map (λ e. e .item) (r .events)) (sym (ok-injective h₂))
-    ∙ ap₂ _∷_ (event-item (item-taken P s at i taken)) (taken-items P (t .state) (at + 1) items all)
+    let o = taken-onward P s at i items h in
+    rw (← (o .is))
+    (ap₂ _∷_ (event-item (item-taken P s at i (o .takes-first))) (taken-items P (o .first .state) (at + 1) items (o .takes-rest)))
 
 -- Events of an earlier part, then those of a later one.
 abbrev pub joined : Replayed → Replayed → Replayed
 joined r r′ = record { last = r′ .last; events = r .events ++ r′ .events }
-
--- An item's event, then those of the items after it.
-abbrev headed : Taken → Replayed → Replayed
-headed t r = record { last = r .last; events = t .event ∷ r .events }
 
 -- Going on with more items, after some.
 abbrev goOn : (Replay → Result Replayed) → Replayed → Result Replayed

@@ -1,8 +1,8 @@
 -- Which events are linked: two commands of one rank's sequence, two accesses that conflict. Both links look only at what the two events share, a
 -- rank or a cell, so an event between them that shares it with the one shares it with the other.
 use Prim.Native.Nat.{ℕ}
-use mathlib.Core.Path.{_≡_, refl, sym, ap, _∙_}
-use mathlib.Core.Bool.{Bool, true, false, _&&_, _||_, false≢true}
+use mathlib.Core.Path.{_≡_, refl, sym, ap, _∙_, ap₂}
+use mathlib.Core.Bool.{Bool, true, false, _&&_, _||_, false≢true, or-comm}
 use mathlib.Core.Option.{Option, some, none}
 use lib.Dec.{eqb}
 use borrow.Author.Tests.{eq-eqb, ne-eqb, eqb-true, eqb-false}
@@ -56,6 +56,16 @@ cell-test a b h c = let parts = cell-parts a b h in rw (parts .0, parts .1)
 -- A cell is shared either way round.
 pub cell-sym : (a b : Access) → sameCell a b ≡ true → sameCell b a ≡ true
 cell-sym a b h = sym (cell-test a b h b) ∙ true-and _ _ (eqb-refl (b .address .rank)) (eqb-refl (b .address .cell))
+
+-- Accesses conflict either way round.
+pub conflict-sym : (x y : Option Access) → conflict x y ≡ conflict y x
+unfolding conflict
+conflict-sym none none = refl
+conflict-sym none (some b) = refl
+conflict-sym (some a) none = refl
+conflict-sym (some a) (some b) =
+    ap₂ _&&_ (ap₂ _&&_ (eqb-comm (a .address .rank) (b .address .rank)) (eqb-comm (a .address .cell) (b .address .cell)))
+    (or-comm (a .writes) (b .writes))
 
 -- Of two accesses that conflict, another overwrites the one exactly if it overwrites the other.
 pub overwrite-test : (a b : Option Access) → conflict a b ≡ true → (c : Option Access) → overwrites c b ≡ overwrites c a

@@ -10,13 +10,13 @@ use lib.ListN.{length, getElem?}
 use Rattle.model.specs.Choice.{member}
 use Rattle.model.specs.HappensBefore.{Edge}
 use Rattle.model.specs.Rings.{fewest}
-use Rattle.model.proofs.Laws.{decided}
+use Rattle.model.proofs.Laws.{decided, getElem?-bound, getElem?-front}
+use Rattle.model.proofs.Selections.{split-at}
 use Rattle.model.proofs.Lists.{_∈_, position, member-true, member-false, Distinct, pigeonhole}
 use Rattle.ordering.proofs.Edges.{_⟶_}
 use Rattle.ordering.proofs.Walks.{Along}
 use Rattle.ordering.proofs.Orders.{Proper}
 use Rattle.ordering.proofs.Lengths.{Walk, stay, step, walk-join, walk-between, Fewest, unled, led, fewest-is}
-use Rattle.ordering.proofs.Shortest.{at-front, at-end, at-below}
 
 -- A number that stands at two places of a list.
 record Twice (l : List ℕ) : Type 0 where
@@ -60,13 +60,13 @@ module _ (groups : ℕ) (edges : List Edge) (proper : Proper groups edges) where
           let (l, long, a) = walk-along m w in
           ⊎-elim
           (λ d. (m, omega (arith, long, pigeonhole groups (g ∷ l) d (along-below g l h a)), w))
-          (λ t. let late : t .j < suc m = omega (arith, at-below (g ∷ l) (t .j) (t .second), long) in
+          (λ t. let late : t .j < suc m = omega (arith, getElem?-bound (g ∷ l) (t .j) (t .second), long) in
           let to : Walk edges (t .i) g (t .x) =
-          walk-between edges g (l ++ h ∷ []) a 0 (t .i) (t .i) refl (at-front (g ∷ l) (h ∷ []) (t .i) (t .first)) (omega arith) in
+          walk-between edges g (l ++ h ∷ []) a 0 (t .i) (t .i) refl (getElem?-front (g ∷ l) (h ∷ []) (t .i) (t .first)) (omega arith) in
           let ends : getElem? (g ∷ (l ++ h ∷ [])) (suc m) ≡ some h =
-          subst (λ (k : ℕ). getElem? (l ++ h ∷ []) k ≡ some h) long (at-end l h) in
+          subst (λ (k : ℕ). getElem? (l ++ h ∷ []) k ≡ some h) long (split-at l h []) in
           let on : Walk edges (suc m - t .j) (t .x) h =
-          walk-between edges g (l ++ h ∷ []) a (t .j) (suc m) (suc m - t .j) (at-front (g ∷ l) (h ∷ []) (t .j) (t .second)) ends (omega (arith, late)) in
+          walk-between edges g (l ++ h ∷ []) a (t .j) (suc m) (suc m - t .j) (getElem?-front (g ∷ l) (h ∷ []) (t .j) (t .second)) ends (omega (arith, late)) in
           let fewer : t .i + (suc m - t .j) ≡ suc (t .i + (m - t .j)) = omega (arith, late) in
           go turns (t .i + (m - t .j)) (omega (arith, late, t .before, enough))
           (subst (λ (k : ℕ). Walk edges k g h) fewer (walk-join to on)))

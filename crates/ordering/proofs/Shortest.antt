@@ -1,17 +1,18 @@
 -- The ring among groups that rise is the shortest, and of the shortest the first. The least n at which a walk closes is the least length. No group
 -- stands twice in it: the part between would be a shorter one. The first group at which it closes is the lowest of its ring, since each of the
 -- ring's groups closes a walk as long, on to the end and then round. And of the walks of that length from there to there it is the first.
-use Prim.Native.Nat.{ℕ, zero, suc, _+_, _-_, _≤_, _<_}
+use Prim.Native.Nat.{ℕ, suc, _+_, _-_, _≤_, _<_}
 use mathlib.Core.Path.{_≡_, refl, sym, subst}
 use mathlib.Core.List.{List, [], _∷_, _++_}
-use mathlib.Core.Option.{Option, some, Option·none-ne-some, Option·some-injective}
+use mathlib.Core.Option.{Option, some, Option·some-injective}
 use native.Mathlib.Omega.{arith}
 use lib.Dec.{ltb}
 use lib.ListN.{length, getElem?}
 use borrow.Author.Tests.{ltb-true, ltb-false}
 use Rattle.model.specs.HappensBefore.{Edge}
 use Rattle.model.specs.Rings.{Closing, closedWalk, ring}
-use Rattle.model.proofs.Laws.{decided}
+use Rattle.model.proofs.Laws.{decided, getElem?-bound, getElem?-front}
+use Rattle.model.proofs.Selections.{split-at}
 use Rattle.model.proofs.Lists.{_∈_, position, Distinct, Rising}
 use Rattle.ordering.proofs.Walks.{Along, Closed}
 use Rattle.ordering.proofs.WalkBack.{Circuit}
@@ -30,21 +31,6 @@ pub record ShortestAmong (groups : List ℕ) (edges : List Edge) (l : List ℕ) 
   pub lowest : (g h : ℕ) → getElem? l 0 ≡ some g → h ∈ l → g ≤ h
   pub fewest : (walk : List ℕ) → Closed edges walk → length l ≤ length walk
   pub first : (walk : List ℕ) → Closed edges walk → length walk ≡ length l → ComesFirst l walk
-
--- Places of a list with more behind it, and its end.
-pub at-front : {A : Type 0} (l m : List A) (i : ℕ) {a : A} → getElem? l i ≡ some a → getElem? (l ++ m) i ≡ some a
-at-front [] m i p = absurd (Option·none-ne-some _ p)
-at-front (x ∷ l) m zero p = p
-at-front (x ∷ l) m (suc i) p = at-front l m i p
-
-pub at-end : {A : Type 0} (l : List A) (a : A) → getElem? (l ++ a ∷ []) (length l) ≡ some a
-at-end [] a = refl
-at-end (x ∷ l) a = at-end l a
-
-pub at-below : {A : Type 0} (l : List A) (i : ℕ) {a : A} → getElem? l i ≡ some a → i < length l
-at-below [] i p = absurd (Option·none-ne-some _ p)
-at-below (x ∷ l) zero p = omega arith
-at-below (x ∷ l) (suc i) p = omega (arith, at-below l i p)
 
 distinct-places : (l : List ℕ) → ((i j x : ℕ) → i < j → getElem? l i ≡ some x → ¬ (getElem? l j ≡ some x)) → Distinct l
 distinct-places [] h = tt
@@ -69,10 +55,10 @@ module _ (groups : List ℕ) (edges : List Edge) (starts : Starts groups edges) 
   between = walk-between edges g (front .rest ++ g ∷ []) (front .along)
 
   ends : getElem? round (suc n) ≡ some g
-  ends = subst (λ (k : ℕ). getElem? (front .rest ++ g ∷ []) k ≡ some g) (front .long) (at-end (front .rest) g)
+  ends = subst (λ (k : ℕ). getElem? (front .rest ++ g ∷ []) k ≡ some g) (front .long) (split-at (front .rest) g [])
 
   placed : {y : ℕ} (i : ℕ) → getElem? (g ∷ front .rest) i ≡ some y → (i < suc n) × (getElem? round i ≡ some y)
-  placed i p = (omega (arith, at-below (g ∷ front .rest) i p, front .long), at-front (g ∷ front .rest) (g ∷ []) i p)
+  placed i p = (omega (arith, getElem?-bound (g ∷ front .rest) i p, front .long), getElem?-front (g ∷ front .rest) (g ∷ []) i p)
 
   -- Each of its groups closes a walk as long: on to the end, then round to it.
   turns-round : (y : ℕ) → y ∈ g ∷ front .rest → Walk edges (suc n) y y

@@ -29,6 +29,17 @@ pub data AllAlike : List Event → List Event → Type 0 where
   none-alike : AllAlike [] []
   more-alike : {x y : Event} {xs ys : List Event} → Alike x y → AllAlike xs ys → AllAlike (x ∷ xs) (y ∷ ys)
 
+-- Each event is like itself, and its like is like it.
+pub alike-refl : (e : Event) → Alike e e
+alike-refl e = record { item = refl; place = refl; queue = refl; access = refl }
+
+pub alike-sym : {x y : Event} → Alike x y → Alike y x
+alike-sym a = record { item = sym (a .item); place = sym (a .place); queue = sym (a .queue); access = sym (a .access) }
+
+pub all-alike-sym : {xs ys : List Event} → AllAlike xs ys → AllAlike ys xs
+all-alike-sym none-alike = none-alike
+all-alike-sym (more-alike a rest) = more-alike (alike-sym a) (all-alike-sym rest)
+
 -- An item taken from one state to another, into an event like this one.
 pub record TakenAs (P : Program) (s : Replay) (at : ℕ) (e : Event) (t : Replay) : Type 0 where
   pub event : Event

@@ -178,6 +178,15 @@ module _ {P : Program} {start : Start} {items : List Item} {run : Replayed} (f :
   pub at-unique : {i j : ℕ} {x y : Event} → At (run .events) i x → At (run .events) j y → i ≡ j → x ≡ y
   at-unique {i} {j} {x} {y} ax ay e = Option·some-injective x y (sym ax ∙ ap (getElem? (run .events)) e ∙ ay)
 
+  -- Of two commands of a rank the one with the lower place stands first.
+  pub place-order : (i j : ℕ) {x y : Event} → At (run .events) i x → At (run .events) j y → isCommand x ≡ true → isCommand y ≡ true →
+      rankOf x ≡ rankOf y → x .place < y .place → i < j
+  place-order i j {x} {y} ax ay cx cy same lower =
+      compared i j
+      (λ less. less)
+      (λ more. absurd (omega (arith, lower, place-rises j i ay ax cy cx (sym same) more)))
+      (λ here. absurd (omega (arith, lower, ap (λ (e : Event). e .place) (at-unique ax ay here))))
+
   -- Pops of one command are of one group.
   issued-group : (k : Kind) (i j : ℕ) {x y : Event} → Issued (run .events) k i x → Issued (run .events) k j y →
       rankOf x ≡ rankOf y → x .place ≡ y .place → x .group ≡ y .group

@@ -1,0 +1,89 @@
+-- Whether an event's access writes is told by its kind: a store's and a delivery's does, a load's and a fetch's does not, and no other item has one.
+use Prim.Native.Nat.{ℕ}
+use mathlib.Core.Path.{_≡_, refl, sym, _∙_, ap}
+use mathlib.Core.Bool.{Bool, _||_}
+use mathlib.Core.Option.{Option, some, none, Option·some-injective, Option·none-ne-some}
+use Rattle.model.specs.declared.Address.{Address}
+use Rattle.model.specs.declared.Kind.{Kind}
+use Rattle.model.specs.declared.Kind.the-variants.{Store, Popb}
+use Rattle.model.specs.ItemKinds.{sameKind}
+use Rattle.model.specs.Programs.{Program, Command, kindOf}
+use Rattle.model.specs.Machine.{Start, Access, Action}
+use Rattle.model.specs.Replay.{Event, Replay, Replayed, accessOf}
+use Rattle.model.specs.HappensBefore.{At, overwrites, conflict}
+use Rattle.model.proofs.Actions.{Asks, loading, storing, assigning, passing, reading, writing, meeting, action-asks}
+use Rattle.record_facts.proofs.Moves.{Move, commands, fetches, delivers}
+use Rattle.record_facts.proofs.Trajectory.{accepted, move-at}
+use Rattle.serializability.proofs.Cells.{writesTo}
+use Rattle.traces.specs.Claims.{RecordedRun}
+
+-- The cell and the value of an access.
+abbrev pub cellIn : Option Access → Option Address
+cellIn x = elim x [ none ↦ none | some a ↦ some (a .address) ]
+
+abbrev pub valueIn : Option Access → Option ℕ
+valueIn x = elim x [ none ↦ none | some a ↦ some (a .value) ]
+
+-- The kinds whose items write.
+abbrev pub writesKind : Kind → Bool
+writesKind k = sameKind k Store || sameKind k Popb
+
+-- Whether an access writes, if there is one.
+abbrev pub WritesAs : Bool → Option Access → Type 0
+WritesAs w none = Unit {0}
+WritesAs w (some a) = a .writes ≡ w
+
+pub writes-as : {w : Bool} (x : Option Access) {b : Access} → x ≡ some b → WritesAs w x → b .writes ≡ w
+writes-as none is h = absurd (Option·none-ne-some _ is)
+writes-as (some c) is h = ap (λ (b : Access). b .writes) (sym (Option·some-injective _ _ is)) ∙ h
+
+action-writes : {P : Program} {r : ℕ} {registers : ℕ → ℕ} {c : Command} {a : Action} → Asks P r registers c a → (cells : ℕ → ℕ → ℕ) →
+    WritesAs (writesKind (kindOf c)) (accessOf r a cells)
+unfolding kindOf accessOf
+action-writes (loading here cell) cells = refl
+action-writes (storing here stored cell) cells = refl
+action-writes (assigning assigned) cells = tt
+action-writes (passing assumed test) cells = tt
+action-writes (reading operands) cells = tt
+action-writes (writing operands) cells = tt
+action-writes meeting cells = tt
+
+move-writes : {P : Program} {s s′ : Replay} {e : Event} → Move P s e s′ → WritesAs (writesKind (e .item .kind)) (e .access)
+move-writes {P} {s} (commands i t a c) =
+    rw (← (c .taken .kind))
+    (action-writes (action-asks P (i .rank) (s .machine .registers (i .rank)) 0 (t .command) (c .taken .acts 0)) (s .machine .cells))
+move-writes (fetches i a rest c) = rw (c .kind-is) refl
+move-writes (delivers i b rest c) = rw (c .kind-is) refl
+
+pub kind-writes : {P : Program} {start : Start} {run : Replayed} → RecordedRun P start run → (i : ℕ) (e : Event) → At (run .events) i e →
+    WritesAs (writesKind (e .item .kind)) (e .access)
+kind-writes {P} {start} {run} a i e at =
+    move-writes (move-at (accepted P start (a .items) run (a .in-record) (a .replayed) .whole) i e at .step)
+
+-- Accesses of one cell that write alike are alike, as far as conflicts go.
+pub data WriteAlike : Option Access → Option Access → Type 0 where
+  neither : WriteAlike none none
+  both : (a b : Access) → a .address ≡ b .address → a .writes ≡ b .writes → WriteAlike (some a) (some b)
+
+pub write-alike : (w : Bool) (x y : Option Access) → WritesAs w x → WritesAs w y → cellIn x ≡ cellIn y → WriteAlike x y
+write-alike w none none wx wy e = neither
+write-alike w none (some b) wx wy e = absurd (Option·none-ne-some _ e)
+write-alike w (some a) none wx wy e = absurd (Option·none-ne-some _ (sym e))
+write-alike w (some a) (some b) wx wy e = both a b (Option·some-injective _ _ e) (wx ∙ sym wy)
+
+pub conflict-same : {x x′ y y′ : Option Access} → WriteAlike x x′ → WriteAlike y y′ → conflict x y ≡ conflict x′ y′
+unfolding conflict
+conflict-same neither alike = refl
+conflict-same (both a b cell writes) neither = refl
+conflict-same (both a b cell writes) (both c d cell′ writes′) = rw (cell, writes, cell′, writes′)
+
+pub overwrites-same : {x x′ y y′ : Option Access} → WriteAlike x x′ → WriteAlike y y′ → overwrites x y ≡ overwrites x′ y′
+unfolding overwrites
+overwrites-same neither alike = refl
+overwrites-same (both a b cell writes) neither = refl
+overwrites-same (both a b cell writes) (both c d cell′ writes′) = rw (cell, writes, cell′)
+
+pub writes-same : (p : Address) {x y : Option Access} → WriteAlike x y → writesTo p x ≡ writesTo p y
+unfolding writesTo
+writes-same p neither = refl
+writes-same p (both a b cell writes) = rw (cell, writes)

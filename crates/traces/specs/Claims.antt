@@ -1,0 +1,48 @@
+-- The notions of "one trace, one page" (document 02, #112), of lists of items and of their events.
+use Prim.Native.Nat.{ℕ, suc}
+use mathlib.Core.Path.{_≡_}
+use mathlib.Core.Bool.{false}
+use mathlib.Core.List.{List}
+use mathlib.Core.Option.{some}
+use lib.ListN.{length}
+use Rattle.model.specs.declared.Item.{Item}
+use Rattle.model.specs.Choice.{Each}
+use Rattle.model.specs.Refusals.{ok}
+use Rattle.model.specs.ItemKinds.{isBar}
+use Rattle.model.specs.Programs.{Program}
+use Rattle.model.specs.Machine.{Start, Access, address}
+use Rattle.model.specs.Replay.{Event, Replayed, replay}
+use Rattle.model.specs.HappensBefore.{At, conflict}
+use Rattle.model.specs.Orders.{Verdict, ordered, cyclic}
+use Rattle.model.specs.Traces.{InRecord}
+
+-- An accepted record of a program from a start: items as a record has them, which the replay takes to this run.
+pub record RecordedRun (P : Program) (start : Start) (run : Replayed) : Type 0 where
+  pub items : List Item
+  pub in-record : Each (InRecord (P .header)) items
+  pub replayed : replay P start items ≡ ok run
+
+-- "two neighbouring items of different ranks, neither a bar, whose accesses do not conflict": x and y, whose events stand at a place and the next.
+pub record Exchangeable (events : List Event) (place : ℕ) (x y : Item) : Type 0 where
+  pub ranks : ¬ (x .rank ≡ y .rank)
+  pub first-no-bar : isBar (x .kind) ≡ false
+  pub second-no-bar : isBar (y .kind) ≡ false
+  pub no-conflict : (e f : Event) → At events place e → At events (suc place) f → conflict (e .access) (f .access) ≡ false
+
+-- Some event accesses this cell.
+pub record Accesses (events : List Event) (rank cell : ℕ) : Type 0 where
+  pub i : ℕ
+  pub e : Event
+  pub a : Access
+  pub at : At events i e
+  pub access : e .access ≡ some a
+  pub here : a .address ≡ address rank cell
+
+-- "two starts differ only in cells that a record .. never accesses"
+abbrev pub DifferOffAccesses : Start → Start → List Event → Type 0
+DifferOffAccesses start other events = (rank cell : ℕ) → ¬ (start rank cell ≡ other rank cell) → ¬ (Accesses events rank cell)
+
+-- Verdicts of one kind, which list as many groups.
+pub data SameKind : Verdict → Verdict → Type 0 where
+  orders : (l m : List ℕ) → length l ≡ length m → SameKind (ordered l) (ordered m)
+  rings : (l m : List ℕ) → length l ≡ length m → SameKind (cyclic l) (cyclic m)
