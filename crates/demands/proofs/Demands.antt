@@ -12,12 +12,12 @@ use Rattle.demands.proofs.Entries.{capacity}
 use Rattle.demands.proofs.Outcomes.{outcomeIn, resultIn, outcome-meets}
 
 -- Both entries write as their form says.
-numbers-written : (order cells : List ℕ) (m : Result Verdicts) → outcomeIn numbers order cells m ≡ outcome order cells m
+pub numbers-written : (order cells : List ℕ) (m : Result Verdicts) → outcomeIn numbers order cells m ≡ outcome order cells m
 unfolding outcome
 numbers-written order cells (ok v) = refl
 numbers-written order cells (refused r) = refl
 
-bytes-written : (order cells : List ℕ) (m : Result Verdicts) → outcomeIn bytes order cells m ≡ outcomeBytes order cells m
+pub bytes-written : (order cells : List ℕ) (m : Result Verdicts) → outcomeIn bytes order cells m ≡ outcomeBytes order cells m
 unfolding outcomeBytes
 bytes-written order cells (ok v) = refl
 bytes-written order cells (refused r) = refl

@@ -56,22 +56,31 @@ is-verdict : (v : Verdict) → IsVerdict (answered v)
 is-verdict (ordered groups) = tt
 is-verdict (cyclic groups) = tt
 
-count-listed : (v : Verdict) → countIn (answered v) ≡ length (listed v)
+pub count-listed : (v : Verdict) → countIn (answered v) ≡ length (listed v)
 count-listed (ordered groups) = refl
 count-listed (cyclic groups) = refl
 
-module _ (form : Form) (program start recorded order cells : List ℕ) (bytes : AreBytes recorded) where
+-- Where each cell's value stands in a list that is filled with the last cells.
+pub cell-read : (form : Form) (cells : List ℕ) (a : Accepted) (rank cell : ℕ) → Rank (a .program) rank → Cell (a .program) cell →
+    getElem? (entries form (fill (written form (lastCells a)) cells)) ((rank - 1) * a .program .header .cells + cell) ≡
+    some (a .run .last .machine .cells rank cell)
+cell-read form cells a rank cell r c =
+    rw (filled-entries form (lastCells a) cells)
+    (getElem?-front (lastCells a) _ ((rank - 1) * a .program .header .cells + cell) (last-cell-at a rank cell r c))
+
+-- What is to be written of an accepted record.
+abbrev pub verdictsOf : Accepted → Verdicts
+verdictsOf a = record { verdict = verdictOn (a .run); cells = lastCells a }
+
+module _ (form : Form) (program start recorded order cells : List ℕ) where
   abbrev result : Result Verdicts
   result = resultIn form program start recorded order cells
 
   abbrev Given : Accepted → Type 0
   Given = Answerable form program start recorded order cells
 
-  abbrev verdictsOf : Accepted → Verdicts
-  verdictsOf a = record { verdict = verdictOn (a .run); cells = lastCells a }
-
   -- The result is a verdict exactly if the record is accepted and both lists are long enough.
-  given-result : (a : Accepted) → Given a → result ≡ ok (verdictsOf a)
+  pub given-result : (a : Accepted) → Given a → result ≡ ok (verdictsOf a)
   unfolding checkResultIn
   given-result a given =
       let o : groupsOf a ≤ capacity form order = rw (entries-length form order) at (given .order-fits) in
@@ -92,125 +101,120 @@ module _ (form : Form) (program start recorded order cells : List ℕ) (bytes : 
       } in
       (a, given, ok-injective h₃)
 
-  second : Demand2 program start recorded
-  second =
-      record {
-        accepted-exactly-if-run = λ P readings last. accepted-iff-run program start recorded P readings last bytes;
-        arrows-are-happens-before = λ a accepted. arrows-are-happens-before (a .run .events);
-      }
-
-  -- A refusal: its number is in the table, and nothing was to be written.
-  module _ (r : Refusal) (is : result ≡ refused r) where
-    none-given : (a : Accepted) → ¬ Given a
-    none-given a given = refused≢ok (sym is ∙ given-result a given)
-
-    refused-as : (s : Refusal) → Refused r ≡ Refused s → RefusedAs order cells (outcomeIn form order cells (refused r)) s
-    refused-as s h =
-        let same : r ≡ s = cc in
-        let tabled = check-tabled program start recorded (capacity form order) (capacity form cells) .row r is in
-        rw (← same) (record { tabled = tabled; same-order = refl; same-cells = refl })
-
-    refusal-meets : MeetsDemands form program start recorded order cells (outcomeIn form order cells (refused r))
-    refusal-meets =
+  module _ (bytes : AreBytes recorded) where
+    second : Demand2 program start recorded
+    second =
         record {
-          demand1 =
-              record {
-                verdict-exactly-if = ((λ v. absurd v), (λ (a, given). none-given a given));
-                last-cells = λ a given. absurd (none-given a given);
-                cells-beyond = λ a given. absurd (none-given a given);
-                order-beyond = record { size = refl; beyond = refl };
-                other-input = refused-as;
-              };
-          demand2 = second;
-          demand3 = λ a given. absurd (none-given a given);
+          accepted-exactly-if-run = λ P readings last. accepted-iff-run program start recorded P readings last bytes;
+          arrows-are-happens-before = λ a accepted. arrows-are-happens-before (a .run .events);
         }
 
-  -- An accepted record, and both lists long enough.
-  module _ (a : Accepted) (given : Given a) where
-    abbrev filled : Outcome
-    filled = outcomeIn form order cells (ok (verdictsOf a))
+    -- A refusal: its number is in the table, and nothing was to be written.
+    module _ (r : Refusal) (is : result ≡ refused r) where
+      none-given : (a : Accepted) → ¬ Given a
+      none-given a given = refused≢ok (sym is ∙ given-result a given)
 
-    -- What is known of its verdict.
-    forward : (groups : List ℕ) → verdictOn (a .run) ≡ ordered groups → TopologicalOrder (groupsOf a) (arrowsOf a) groups
-    forward = order-forward program start recorded a bytes (given .accepted)
+      refused-as : (s : Refusal) → Refused r ≡ Refused s → RefusedAs order cells (outcomeIn form order cells (refused r)) s
+      refused-as s h =
+          let same : r ≡ s = cc in
+          let tabled = check-tabled program start recorded (capacity form order) (capacity form cells) .row r is in
+          rw (← same) (record { tabled = tabled; same-order = refl; same-cells = refl })
 
-    shortest : (ring : List ℕ) → verdictOn (a .run) ≡ cyclic ring → ShortestRing (groupsOf a) (arrowsOf a) ring
-    shortest = ring-shortest program start recorded a bytes (given .accepted)
+      refusal-meets : MeetsDemands form program start recorded order cells (outcomeIn form order cells (refused r))
+      refusal-meets =
+          record {
+            demand1 =
+                record {
+                  verdict-exactly-if = ((λ v. absurd v), (λ (a, given). none-given a given));
+                  last-cells = λ a given. absurd (none-given a given);
+                  cells-beyond = λ a given. absurd (none-given a given);
+                  order-beyond = record { size = refl; beyond = refl };
+                  other-input = refused-as;
+                };
+            demand2 = second;
+            demand3 = λ a given. absurd (none-given a given);
+          }
 
-    serial : Serializable (a .program) (a .readings) (a .run)
-    serial = accepted-serializable program start recorded a bytes (given .accepted)
+    -- An accepted record, and both lists long enough.
+    module _ (a : Accepted) (given : Given a) where
+      abbrev filled : Outcome
+      filled = outcomeIn form order cells (ok (verdictsOf a))
 
-    -- The cell list: the last cells, and behind them what it was.
-    cell-read : (rank cell : ℕ) → Rank (a .program) rank → Cell (a .program) cell →
-        getElem? (entries form (filled .cells)) ((rank - 1) * a .program .header .cells + cell) ≡ some (a .run .last .machine .cells rank cell)
-    cell-read rank cell r c =
-        rw (filled-entries form (lastCells a) cells)
-        (getElem?-front (lastCells a) _ ((rank - 1) * a .program .header .cells + cell) (last-cell-at a rank cell r c))
+      -- What is known of its verdict.
+      forward : (groups : List ℕ) → verdictOn (a .run) ≡ ordered groups → TopologicalOrder (groupsOf a) (arrowsOf a) groups
+      forward = order-forward program start recorded a bytes (given .accepted)
 
-    cells-kept : Untouched form (cellsOf a) cells (filled .cells)
-    cells-kept =
-        let room : length (lastCells a) ≤ capacity form cells = omega (arith, last-cells-length a, given .cells-fit, entries-length form cells) in
-        subst (λ count. Untouched form count cells (filled .cells)) (last-cells-length a) (filled-untouched form (lastCells a) cells room)
+      shortest : (ring : List ℕ) → verdictOn (a .run) ≡ cyclic ring → ShortestRing (groupsOf a) (arrowsOf a) ring
+      shortest = ring-shortest program start recorded a bytes (given .accepted)
 
-    -- The order list: the verdict's groups, which are no more than there are, and behind them what it was.
-    few-listed : (v : Verdict) → verdictOn (a .run) ≡ v → length (listed v) ≤ groupsOf a
-    few-listed (ordered groups) is = omega (arith, forward groups is .count)
-    few-listed (cyclic cycle) is = cycle-length (groupsOf a) (arrowsOf a) cycle (shortest cycle is .cycle)
+      serial : Serializable (a .program) (a .readings) (a .run)
+      serial = accepted-serializable program start recorded a bytes (given .accepted)
 
-    order-kept : (v : Verdict) → verdictOn (a .run) ≡ v → Untouched form (countIn (answered v)) order (fill (written form (listed v)) order)
-    order-kept v is =
-        let room : length (listed v) ≤ capacity form order = omega (arith, few-listed v is, given .order-fits, entries-length form order) in
-        rw (count-listed v) (filled-untouched form (listed v) order room)
+      -- Behind the last cells the cell list is what it was.
+      cells-kept : Untouched form (cellsOf a) cells (filled .cells)
+      cells-kept =
+          let room : length (lastCells a) ≤ capacity form cells = omega (arith, last-cells-length a, given .cells-fit, entries-length form cells) in
+          subst (λ count. Untouched form count cells (filled .cells)) (last-cells-length a) (filled-untouched form (lastCells a) cells room)
 
-    groups-read : (v : Verdict) {n : ℕ} → verdictOn (a .run) ≡ v → length (listed v) ≡ n → firstEntries form n (filled .order) ≡ listed v
-    groups-read v is count = rw (is, ← count) (filled-reads form (listed v) order)
+      -- The order list: the verdict's groups, which are no more than there are, and behind them what it was.
+      few-listed : (v : Verdict) → verdictOn (a .run) ≡ v → length (listed v) ≤ groupsOf a
+      few-listed (ordered groups) is = omega (arith, forward groups is .count)
+      few-listed (cyclic cycle) is = cycle-length (groupsOf a) (arrowsOf a) cycle (shortest cycle is .cycle)
 
-    ring-read : (n : ℕ) → filled .answer ≡ Ring n → IsRing a (firstEntries form n (filled .order)) n
-    ring-read n h =
-        let (cycle, is, count) = answered-ring (verdictOn (a .run)) h in
-        rw (groups-read (cyclic cycle) is count) (record { count = count; shortest = shortest cycle is })
+      order-kept : (v : Verdict) → verdictOn (a .run) ≡ v → Untouched form (countIn (answered v)) order (fill (written form (listed v)) order)
+      order-kept v is =
+          let room : length (listed v) ≤ capacity form order = omega (arith, few-listed v is, given .order-fits, entries-length form order) in
+          rw (count-listed v) (filled-untouched form (listed v) order room)
 
-    order-read : (n : ℕ) → filled .answer ≡ Order n → IsOrder a (firstEntries form n (filled .order)) n
-    order-read n h =
-        let (groups, is, count) = answered-order (verdictOn (a .run)) h in
-        let (run, serialization) = serial .order groups is in
-        rw (groups-read (ordered groups) is count)
-        (record { count = sym count ∙ forward groups is .count; forward = forward groups is; run = run; serial = serialization })
+      groups-read : (v : Verdict) {n : ℕ} → verdictOn (a .run) ≡ v → length (listed v) ≡ n → firstEntries form n (filled .order) ≡ listed v
+      groups-read v is count = rw (is, ← count) (filled-reads form (listed v) order)
 
-    -- No other record is accepted, so all this is said of the one that is.
-    only : (b : Accepted) → Given b → a ≡ b
-    only b also = ok-injective (sym (given .accepted) ∙ also .accepted)
+      ring-read : (n : ℕ) → filled .answer ≡ Ring n → IsRing a (firstEntries form n (filled .order)) n
+      ring-read n h =
+          let (cycle, is, count) = answered-ring (verdictOn (a .run)) h in
+          rw (groups-read (cyclic cycle) is count) (record { count = count; shortest = shortest cycle is })
 
-    first : Demand1 form program start recorded order cells filled
-    first =
-        record {
-          verdict-exactly-if = ((λ v. (a, given)), (λ h. is-verdict (verdictOn (a .run))));
-          last-cells = λ b also. rw (← (only b also)) cell-read;
-          cells-beyond = λ b also. rw (← (only b also)) cells-kept;
-          order-beyond = order-kept (verdictOn (a .run)) refl;
-          other-input = λ r h. absurd (answered-not-refused (verdictOn (a .run)) h);
-        }
+      order-read : (n : ℕ) → filled .answer ≡ Order n → IsOrder a (firstEntries form n (filled .order)) n
+      order-read n h =
+          let (groups, is, count) = answered-order (verdictOn (a .run)) h in
+          let (run, serialization) = serial .order groups is in
+          rw (groups-read (ordered groups) is count)
+          (record { count = sym count ∙ forward groups is .count; forward = forward groups is; run = run; serial = serialization })
 
-    third : Demand3 form a filled
-    third =
-        record {
-          ring-exactly-if = (
-            (λ (n, h). let (cycle, is, count) = answered-ring (verdictOn (a .run)) h in serial .ring .0 (cycle, is)),
-            (λ none. let (cycle, is) = serial .ring .1 none in (length cycle, ap answered is)),
-          );
-          ring-listed = ring-read;
-          order-listed = order-read;
-        }
+      -- No other record is accepted, so all this is said of the one that is.
+      only : (b : Accepted) → Given b → a ≡ b
+      only b also = ok-injective (sym (given .accepted) ∙ also .accepted)
 
-    verdict-meets : MeetsDemands form program start recorded order cells filled
-    verdict-meets = record { demand1 = first; demand2 = second; demand3 = λ b also. rw (← (only b also)) third }
+      first : Demand1 form program start recorded order cells filled
+      first =
+          record {
+            verdict-exactly-if = ((λ v. (a, given)), (λ h. is-verdict (verdictOn (a .run))));
+            last-cells = λ b also. rw (← (only b also)) (cell-read form cells a);
+            cells-beyond = λ b also. rw (← (only b also)) cells-kept;
+            order-beyond = order-kept (verdictOn (a .run)) refl;
+            other-input = λ r h. absurd (answered-not-refused (verdictOn (a .run)) h);
+          }
 
-  -- Either way.
-  pub outcome-meets : MeetsDemands form program start recorded order cells (outcomeIn form order cells result)
-  outcome-meets = by-result result refl
-    where
-      by-result : (m : Result Verdicts) → result ≡ m → MeetsDemands form program start recorded order cells (outcomeIn form order cells m)
-      by-result (refused r) is = refusal-meets r is
-      by-result (ok v) is =
-          let (a, given, same) = result-given v is in
-          subst (λ v. MeetsDemands form program start recorded order cells (outcomeIn form order cells (ok v))) same (verdict-meets a given)
+      third : Demand3 form a filled
+      third =
+          record {
+            ring-exactly-if = (
+              (λ (n, h). let (cycle, is, count) = answered-ring (verdictOn (a .run)) h in serial .ring .0 (cycle, is)),
+              (λ none. let (cycle, is) = serial .ring .1 none in (length cycle, ap answered is)),
+            );
+            ring-listed = ring-read;
+            order-listed = order-read;
+          }
+
+      verdict-meets : MeetsDemands form program start recorded order cells filled
+      verdict-meets = record { demand1 = first; demand2 = second; demand3 = λ b also. rw (← (only b also)) third }
+
+    -- Either way.
+    pub outcome-meets : MeetsDemands form program start recorded order cells (outcomeIn form order cells result)
+    outcome-meets = by-result result refl
+      where
+        by-result : (m : Result Verdicts) → result ≡ m → MeetsDemands form program start recorded order cells (outcomeIn form order cells m)
+        by-result (refused r) is = refusal-meets r is
+        by-result (ok v) is =
+            let (a, given, same) = result-given v is in
+            subst (λ v. MeetsDemands form program start recorded order cells (outcomeIn form order cells (ok v))) same (verdict-meets a given)

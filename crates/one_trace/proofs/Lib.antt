@@ -1,0 +1,3 @@
+-- What the check answers to a call, and the claims.
+pub mod Answers
+pub mod OneTrace

@@ -1,0 +1,2 @@
+-- The page of claims.
+pub mod OneTrace
