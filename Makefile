@@ -87,7 +87,8 @@ $(LIBRARY) $(LISTING_LIBRARY): target/staticlib/lib%.a: crates.txt $(shell find 
 	rt staticlib $*
 
 # The harness with the library's check in place of the second program's: the corpus, generated inputs, small records judged by searching all plain
-# runs, and the verdict on every pair of map and kind, against the table that the second program writes.
+# runs, its answers on records of one trace beside each other, and the verdict on every pair of map and kind, against the table that the second program
+# writes.
 first: $(LIBRARY) programs
 	cd tests/second && cargo build --release --quiet --features first --target-dir ../../target/first
 	$(HARNESS) write-forms $(FORMS)
@@ -95,6 +96,7 @@ first: $(LIBRARY) programs
 	$(FIRST) corpus $(VECTORS)
 	$(FIRST) generated $(SEED) $(COUNT)
 	$(FIRST) judged $(SEED)
+	$(FIRST) one-trace $(SEED)
 
 # The compiled check's times beside the second program's.
 bench: $(LIBRARY)

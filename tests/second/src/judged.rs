@@ -31,7 +31,7 @@ pub fn judge_observed(input: &Input, observed: &Observed) -> Result<Verdict, Str
 }
 
 /// The order or ring that a subject gave, as it stands in the order list.
-fn verdict_of(observed: &Observed) -> Result<Verdict, String> {
+pub(crate) fn verdict_of(observed: &Observed) -> Result<Verdict, String> {
     let mut list = observed.order.clone();
     let entries = inner(&mut list).chunks_exact(2);
     let room = entries.len();
@@ -52,7 +52,7 @@ fn verdict_of(observed: &Observed) -> Result<Verdict, String> {
 }
 
 /// The input's run with a verdict from elsewhere; no arrows are drawn.
-fn accepted_with(input: &Input, verdict: Verdict) -> Outcome<Accepted> {
+pub(crate) fn accepted_with(input: &Input, verdict: Verdict) -> Outcome<Accepted> {
     let program = Program::read(&input.program)?;
     let start = start_of(&program, &input.start)?;
     let items = read_record(&input.record, &program)?;
@@ -69,7 +69,7 @@ fn accepted_with(input: &Input, verdict: Verdict) -> Outcome<Accepted> {
 }
 
 /// Judges the listed numbers: each is a group's, and none stands twice.
-fn judge_numbers(verdict: &Verdict, groups: usize) -> Result<(), String> {
+pub(crate) fn judge_numbers(verdict: &Verdict, groups: usize) -> Result<(), String> {
     let listed = verdict.groups();
     if listed.iter().any(|&group| group >= groups) {
         return Err(format!("{verdict:?}, but there are {groups} groups"));

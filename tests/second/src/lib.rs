@@ -22,6 +22,7 @@ pub mod judged;
 pub mod limits;
 pub mod listing;
 pub mod machine;
+pub mod one_trace;
 pub mod order;
 pub mod program;
 pub mod record;

@@ -96,7 +96,7 @@ pub fn closed_walks(targets: &[Vec<usize>], length: usize) -> Vec<Vec<usize>> {
 }
 
 /// A closed walk begun at its lowest number.
-fn from_its_lowest(walk: &[usize]) -> Vec<usize> {
+pub(crate) fn from_its_lowest(walk: &[usize]) -> Vec<usize> {
     let mut listed = walk.to_vec();
     let lowest = (0..walk.len()).min_by_key(|&place| walk[place]);
     listed.rotate_left(lowest.unwrap_or(0));

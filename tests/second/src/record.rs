@@ -195,6 +195,24 @@ pub fn maps(kind: Kind) -> [u8; 2] {
     }
 }
 
+/// Where the items of a record begin, the fields passed over by the bits of each map.
+pub fn items_of(record: &[u8]) -> Vec<usize> {
+    let mut places = Vec::new();
+    let mut at = 2;
+    while at + 1 < record.len() {
+        places.push(at);
+        at += 2 + fields(record[at]);
+    }
+    places
+}
+
+/// The bytes of the fields that a map names.
+pub fn fields(map: u8) -> usize {
+    let bytes = [1, 1, 1, 1, 2, 2, 1, 1].into_iter().enumerate();
+    let named = bytes.filter(|(bit, _)| map & (1 << bit) != 0);
+    named.map(|(_, bytes)| bytes).sum()
+}
+
 /// Reads the record bytes whole, front to back, against a readable program.
 pub fn read_record(bytes: &[u8], program: &Program) -> Outcome<Vec<Item>> {
     let mut reader = ByteReader::new(bytes, number::RECORD_LENGTH);

@@ -45,6 +45,9 @@ fn bad_arguments_end_with_status_2() {
     assert_bad_input(&["judged"], "usage");
     assert_bad_input(&["judged", "one"], "SEED `one`");
     assert_bad_input(&["judged", "1", "2.5"], "COUNT `2.5`");
+    assert_bad_input(&["one-trace"], "usage");
+    assert_bad_input(&["one-trace", "one"], "SEED `one`");
+    assert_bad_input(&["one-trace", "1", "x"], "COUNT `x`");
     assert_bad_input(&["forms"], "usage");
     assert_bad_input(&["write-forms"], "usage");
     assert_bad_input(&["--guards"], "usage");
@@ -169,17 +172,27 @@ fn the_corpus_and_generated_inputs_agree() {
     );
 }
 
-#[test]
-fn answers_on_small_records_are_judged() {
+/// Fails unless a command agrees, with its memory lent in either way, and begins with these words.
+fn assert_agrees(command: &[&str], begin: &str) {
     for option in [&[][..], &["--guards"]] {
-        let output = harness(&[option, &["judged", "4", "500"]].concat());
+        let output = harness(&[option, command].concat());
         let text = String::from_utf8_lossy(&output.stdout);
         assert_eq!(output.status.code(), Some(0), "{text}");
-        assert!(
-            text.starts_with("judged: 500 answers hold, seed 4"),
-            "{text}"
-        );
+        assert!(text.starts_with(begin), "{text}");
     }
+}
+
+#[test]
+fn answers_on_small_records_are_judged() {
+    assert_agrees(&["judged", "4", "500"], "judged: 500 answers hold, seed 4");
+}
+
+#[test]
+fn answers_on_records_of_one_trace_are_laid_side_by_side() {
+    assert_agrees(
+        &["one-trace", "4", "300"],
+        "one-trace: 300 records hold, seed 4",
+    );
 }
 
 /// The file of a fresh table, and its text.

@@ -2,7 +2,7 @@
 
 mod common;
 
-use common::{fields, items_of, takes_high};
+use common::takes_high;
 use second::check::{check_bytes, Answer};
 use second::corpus::{CheckCase, SlipCase};
 use second::extras::{compare_all_ranks, compare_extras, compare_slip_reader, Extras, Tally};
@@ -15,7 +15,7 @@ use second::generator::{input, middle_run, small_run, Input};
 use second::harness::{between_guards, compare, Histogram};
 use second::limits::{number, Refusal};
 use second::program::Program;
-use second::record::record_bytes;
+use second::record::{fields, items_of, record_bytes};
 use second::slip::read_slip;
 use second::start::start_bytes;
 use second::start_extras::{compare_start_reader, compare_start_writer};

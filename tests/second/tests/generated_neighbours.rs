@@ -3,7 +3,7 @@
 
 mod common;
 
-use common::{accepted, assert_seen, count, fields, items_of, read_program_and_start, Times};
+use common::{accepted, assert_seen, count, read_program_and_start, Times};
 use second::check::{accept, check_bytes, Accepted, Answer};
 use second::generator::neighbours::loosened_run;
 use second::generator::{input, names_remote, small_input, Input};
@@ -13,7 +13,7 @@ use second::limits::Refusal;
 use second::machine::{Machine, Start};
 use second::order::Verdict;
 use second::program::{Kind, Program};
-use second::record::{read_record, Act, Item, Pop};
+use second::record::{fields, items_of, read_record, Act, Item, Pop};
 use std::collections::BTreeSet;
 
 /// What a pop that is taken shows: the machine before it, the pop, and whether it is of a read.

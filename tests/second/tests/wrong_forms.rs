@@ -2,7 +2,7 @@
 
 mod common;
 
-use common::{fields, is_cut, items_of, refused, told};
+use common::{is_cut, refused, told};
 use second::check::{check_bytes, Answer};
 use second::extras::{listed, slip_written, Extras, Functions, Told, Writer, SECOND};
 use second::forms::hold::{hold, Readers, Shown};
@@ -10,6 +10,7 @@ use second::forms::table::Table;
 use second::forms::{Form, Pair};
 use second::harness::{between_guards, Subject};
 use second::limits::Refusal;
+use second::record::{fields, items_of};
 
 /// The functions that read a record.
 const FUNCTIONS: [&str; 3] = ["check", "slip writer", "listing"];

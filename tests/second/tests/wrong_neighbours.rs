@@ -3,8 +3,7 @@
 mod common;
 
 use common::{
-    assert_caught, assert_caught_and_misjudged, check_by, fields, first_caught, first_misjudged,
-    items_of, refused,
+    assert_caught, assert_caught_and_misjudged, check_by, first_caught, first_misjudged, refused,
 };
 use second::check::{check_bytes, Answer};
 use second::generator::names_remote;
@@ -12,7 +11,7 @@ use second::harness::Subject;
 use second::limits::Refusal;
 use second::machine::{Machine, Step};
 use second::program::Program;
-use second::record::{read_record, Act, Cell, Item};
+use second::record::{fields, items_of, read_record, Act, Cell, Item};
 
 /// What is known of an entry that waits.
 #[derive(Clone, Copy)]

@@ -1,7 +1,7 @@
 //! Random executions of a program, with random delays of popa and popb.
 
 use super::rng::Rng;
-use crate::machine::{Machine, Start};
+use crate::machine::{Machine, Start, Step};
 use crate::program::{Kind, Program};
 use crate::record::{Act, Item, Pop};
 
@@ -45,6 +45,14 @@ pub fn pace(rng: &mut Rng, items: usize, groups: usize) -> Pace {
         valued,
         at_once: false,
         naming: 0,
+    }
+}
+
+/// Gives every other access its value, by the steps that the items make, and no other item one.
+pub fn give_values(rng: &mut Rng, items: &mut [Item], steps: &[Step]) {
+    for (item, step) in items.iter_mut().zip(steps) {
+        let value = step.access.map(|access| access.value);
+        item.value = value.filter(|_| rng.chance(1, 2));
     }
 }
 

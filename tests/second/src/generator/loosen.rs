@@ -36,7 +36,7 @@ fn may_pass(first: &Item, second: &Item) -> bool {
 }
 
 /// Whether both access one cell and one of them writes.
-fn same_cell_conflict(first: &Item, second: &Item) -> bool {
+pub fn same_cell_conflict(first: &Item, second: &Item) -> bool {
     let writes = |item: &Item| matches!(item.act.kind(), Kind::Store | Kind::PopB);
     first.place.is_some() && first.place == second.place && (writes(first) || writes(second))
 }

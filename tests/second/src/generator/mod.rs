@@ -26,6 +26,7 @@ use crate::limits::{MAX_SHORT_COUNT, MAX_SHORT_MAP_RANKS};
 use crate::machine::Start;
 use crate::program::{Kind, Program};
 use crate::record::{read_record, record_bytes, Item};
+use crate::replay::replay;
 use crate::start::{shortest_bytes, start_bytes};
 use edition::Edition;
 use executions::{execution, pace, Pace};
@@ -227,6 +228,17 @@ pub fn small_input(seed: u64, index: u64) -> Input {
     let mut rng = Rng::new(seed, index);
     let run = later_run(&mut rng, SMALL_RUNS, Edition::Today);
     roomy(&mut rng, &run, Edition::Today)
+}
+
+/// The accepted input of this number under this seed, of any size; none is damaged.
+pub fn accepted_input(seed: u64, index: u64) -> Input {
+    let mut rng = Rng::new(seed, index);
+    loop {
+        let run = later_run(&mut rng, ANY_RUNS, Edition::Today);
+        if replay(&run.0, &run.1, &run.2).is_ok() {
+            return roomy(&mut rng, &run, Edition::Today);
+        }
+    }
 }
 
 /// A way to make a random run.

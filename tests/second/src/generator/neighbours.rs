@@ -124,18 +124,32 @@ fn add_transfers(rng: &mut Rng, program: &mut Program, ranks: &[usize]) {
 }
 
 /// Takes names away from pops that take the oldest of all entries, so many in four.
-fn thin(rng: &mut Rng, (program, start, items): &mut Run) {
+pub fn thin(rng: &mut Rng, run: &mut Run) {
     let in_four = *rng.pick(&[0, 2, 4]);
+    rename(run, |named, oldest| {
+        let without = named == oldest && rng.chance(in_four, 4);
+        named.filter(|_| !without)
+    });
+}
+
+/// Has every pop name the remote rank of the entry that it takes.
+pub fn name_all(run: &mut Run) {
+    rename(run, Option::or);
+}
+
+/// Has each pop name what is made of the rank that it names and that of the oldest of all entries.
+fn rename(
+    (program, start, items): &mut Run,
+    mut name: impl FnMut(Option<usize>, Option<usize>) -> Option<usize>,
+) {
     let mut machine = Machine::new(program, start);
     for item in items {
         let oldest = machine.remotes_waiting(item.act).first().copied();
         if let Some(pop) = item.act.pop_mut() {
-            if pop.remote == oldest && rng.chance(in_four, 4) {
-                pop.remote = None;
-            }
+            pop.remote = name(pop.remote, oldest);
         }
         machine
             .step(program, item)
-            .expect("a pop takes the same entry without its name");
+            .expect("a pop takes the same entry with its name and without");
     }
 }

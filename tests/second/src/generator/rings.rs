@@ -3,6 +3,7 @@
 //! each other, and lie far from group 0.
 
 use super::edition::Edition;
+use super::executions::give_values;
 use super::group_count;
 use super::programs::every_rank;
 use super::readings::readings;
@@ -64,10 +65,7 @@ fn braided(rng: &mut Rng, patterns: usize) -> Run {
         Start::zero(&program)
     };
     let run = replay(&program, &start, &items).expect("a braid is accepted");
-    for (item, step) in items.iter_mut().zip(&run.steps) {
-        let value = step.access.map(|access| access.value);
-        item.value = value.filter(|_| rng.chance(1, 2));
-    }
+    give_values(rng, &mut items, &run.steps);
     (program, start, items)
 }
 

@@ -21,7 +21,7 @@ use second::limits::{Outcome, Refusal};
 use second::machine::{Machine, Run as Replayed, Start, Step};
 use second::order::decide;
 use second::program::Program;
-use second::record::{read_record, record_bytes, Item};
+use second::record::{fields, read_record, record_bytes, Item};
 use second::start::{start_bytes, start_of};
 use second::start_extras::{compare_start_reader, compare_start_writer};
 use std::collections::{BTreeMap, BTreeSet};
@@ -220,24 +220,6 @@ pub fn told(number: u8, value: usize) -> Told {
 /// A refusal as an answer.
 pub fn refused(number: u8, place: usize) -> Answer {
     Answer::Refused(Refusal { number, place })
-}
-
-/// Where the items of a record begin, the fields passed over by the bits of each map.
-pub fn items_of(record: &[u8]) -> Vec<usize> {
-    let mut places = Vec::new();
-    let mut at = 2;
-    while at + 1 < record.len() {
-        places.push(at);
-        at += 2 + fields(record[at]);
-    }
-    places
-}
-
-/// The bytes of the fields that a map names.
-pub fn fields(map: u8) -> usize {
-    let bytes = [1, 1, 1, 1, 2, 2, 1, 1].into_iter().enumerate();
-    let named = bytes.filter(|(bit, _)| map & (1 << bit) != 0);
-    named.map(|(_, bytes)| bytes).sum()
 }
 
 /// Whether a record ends before all fields that the map at this place names.

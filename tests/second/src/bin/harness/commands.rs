@@ -19,6 +19,7 @@ use second::harness::{between_guards, compare, compare_case, input_of, Histogram
 use second::judge::{judge, judge_order};
 use second::judged::{judge_observed, Verdicts};
 use second::listing::listing_of_directory;
+use second::one_trace::{self, tried::Tried};
 use second::order::Verdict;
 use second::start_extras::{compare_start_reader, compare_start_writer};
 use std::collections::BTreeSet;
@@ -227,14 +228,33 @@ pub fn judged(tested: &Tested, seed: u64, count: u64) -> Done {
     ))
 }
 
+/// Lays the subject's answers on records of one trace side by side, and from starts that no access
+/// of a record tells apart.
+pub fn one_trace(tested: &Tested, seed: u64, count: u64) -> Done {
+    let mut tried = Tried::default();
+    for index in 0..count {
+        one_trace::hold(&readers_of(tested), seed, index, &mut tried).map_err(|fault| {
+            Failure::Disagreement(format!("one trace: seed {seed}, index {index}\n{fault}"))
+        })?;
+    }
+    Ok(format!(
+        "one-trace: {count} records hold, seed {seed} ({})\n{tried}",
+        tested.name
+    ))
+}
+
+/// The subject's functions that read a record.
+fn readers_of(tested: &Tested) -> Readers<'_> {
+    Readers {
+        check: &tested.observe,
+        extras: &tested.extras,
+    }
+}
+
 /// Holds the subject's check, slip writer and listing to a table of verdicts.
 pub fn forms(tested: &Tested, file: &str) -> Done {
     let table = Table::read(Path::new(file)).map_err(Failure::Input)?;
-    let readers = Readers {
-        check: &tested.observe,
-        extras: &tested.extras,
-    };
-    let shown = hold(&table, &readers).map_err(Failure::Disagreement)?;
+    let shown = hold(&table, &readers_of(tested)).map_err(Failure::Disagreement)?;
     Ok(format!("forms: all pairs agree ({})\n{shown}", tested.name))
 }
 

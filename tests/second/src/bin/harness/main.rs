@@ -12,14 +12,17 @@ use subject::Tested;
 
 /// How many small records `judged` takes if it is not told.
 const JUDGED_COUNT: u64 = 80_000;
+/// How many records `one-trace` takes if it is not told.
+const ONE_TRACE_COUNT: u64 = 20_000;
 
 /// What is printed when the arguments are not understood.
 const USAGE: &str = "usage:
   harness corpus DIR              compare the subject with every case of the corpus
   harness generated SEED COUNT    compare the subject with the second program on generated inputs
   harness judged SEED [COUNT]     judge the subject's answers on small records by exhaustive search
+  harness one-trace SEED [COUNT]  lay the subject's answers on records of one trace side by side
   harness forms FILE              hold the subject to a table of verdicts on map and kind
-  harness --guards ...            one of these four; the first program, if it is linked, is lent
+  harness --guards ...            one of these five; the first program, if it is linked, is lent
                                   its lists between guard bytes and not at the ends of pages
   harness write-forms FILE        write the papers' table of verdicts on map and kind
   harness write-corpus DIR SEED   make the corpus files (all but the hand-written ones)
@@ -47,7 +50,9 @@ fn number(what: &str, text: &str) -> Result<u64, Failure> {
 /// Runs the command that the arguments name.
 fn run(arguments: &[&str]) -> Done {
     match arguments {
-        ["corpus" | "generated" | "judged" | "forms", ..] => test(arguments, &Tested::usual()),
+        ["corpus" | "generated" | "judged" | "one-trace" | "forms", ..] => {
+            test(arguments, &Tested::usual())
+        }
         ["--guards", arguments @ ..] => test(arguments, &Tested::between_guards()),
         ["write-forms", file] => commands::write_forms(file),
         ["write-corpus", directory, seed] => {
@@ -70,6 +75,10 @@ fn test(arguments: &[&str], tested: &Tested) -> Done {
         ["judged", seed] => commands::judged(tested, number("SEED", seed)?, JUDGED_COUNT),
         ["judged", seed, count] => {
             commands::judged(tested, number("SEED", seed)?, number("COUNT", count)?)
+        }
+        ["one-trace", seed] => commands::one_trace(tested, number("SEED", seed)?, ONE_TRACE_COUNT),
+        ["one-trace", seed, count] => {
+            commands::one_trace(tested, number("SEED", seed)?, number("COUNT", count)?)
         }
         ["forms", file] => commands::forms(tested, file),
         _ => Err(Failure::Input(USAGE.into())),
