@@ -9,7 +9,8 @@ use Rattle.model.specs.declared.Answer.the-variants.{Order, Ring}
 use Rattle.model.specs.declared.Item.{Item}
 use Rattle.model.specs.Limits.{maxItems}
 use Rattle.model.specs.Refusals.{ok}
-use Rattle.model.specs.Choice.{Each}
+use Rattle.model.specs.Choice.{Each, numbersFrom}
+use Rattle.model.specs.Marked.{markedMap, markedBytes}
 use Rattle.model.specs.Bytes.{AreBytes, wordBytes}
 use Rattle.model.specs.Programs.{Program}
 use Rattle.model.specs.Records.{readRecord}
@@ -20,6 +21,7 @@ use Rattle.model.specs.HappensBefore.{edgesOf}
 use Rattle.model.specs.Orders.{Verdict, verdict}
 use Rattle.model.specs.Traces.{InRecord, SameTrace}
 use Rattle.model.specs.Checks.{Accepted, acceptIn, verdictOn, rankByRank, lastCells, listed, answered}
+use Rattle.model.specs.Slips.{mapBytes, slipOf}
 use Rattle.model.proofs.Laws.{ok-injective, each-weaker}
 use Rattle.model.proofs.Accepted.{AcceptedParts, accepted-parts}
 use Rattle.model.proofs.Ranges.{header-fits, read-in-record}
@@ -28,9 +30,11 @@ use Rattle.record_bytes.proofs.WrittenSo.{read-writable, read-few, written-so}
 use Rattle.record_bytes.proofs.ReadBack.{read-back}
 use Rattle.record_bytes.proofs.SmallBytes.{record-small}
 use Rattle.record_bytes.proofs.Accepting.{accept-written}
-use Rattle.traces.specs.Claims.{RecordedRun, Exchangeable, DifferOffAccesses}
+use Rattle.traces.specs.Claims.{RecordedRun, Exchangeable, Accesses, DifferOffAccesses}
 use Rattle.traces.specs.Claims as Verdicts
-use Rattle.traces.proofs.Contents.{same-cells, same-registers}
+use Rattle.traces.proofs.Pairs.{facts-of}
+use Rattle.traces.proofs.LastWrites.{never-accessed}
+use Rattle.traces.proofs.Contents.{same-cells, same-registers, same-taken}
 use Rattle.traces.proofs.Verdicts.{same-kind}
 use Rattle.traces.proofs.Starts as Starts
 use Rattle.traces.proofs.Exchange as Items
@@ -42,6 +46,17 @@ use Rattle.one_trace.proofs.Answers.{answer-is, groups-are, cells-are, 
 answered-alike : {v w : Verdict} → Verdicts.SameKind v w → SameKind (answered v) (answered w)
 answered-alike (Verdicts.orders l m long) = subst (λ n. SameKind (Order (length l)) (Order n)) long (orders (length l))
 answered-alike (Verdicts.rings l m long) = subst (λ n. SameKind (Ring (length l)) (Ring n)) long (rings (length l))
+
+-- A slip goes by the counts of commands.
+same-slip : (a : Accepted) (readings : Start) (run : Replayed) → ((rank : ℕ) → a .run .last .taken rank ≡ run .last .taken rank) →
+    slipOf a ≡ slipOf (another a readings run)
+unfolding slipOf
+same-slip a readings run same =
+    ap
+    (λ (counts : ℕ → ℕ).
+    mapBytes (a .program .header .ranks) (markedMap 1 counts (numbersFrom 1 (a .program .header .ranks))) ++
+    markedBytes counts (numbersFrom 1 (a .program .header .ranks)))
+    (fun-ext same)
 
 -- An accepted record's bytes are read as an accepted list of items.
 recorded-run : (program start recorded : List ℕ) (a : Accepted) → AreBytes recorded → IsAccepted program start recorded a →
@@ -67,6 +82,7 @@ module _ (program start recorded other : List ℕ) (a : Accepted) (run : Replaye
             sym (cells-are m);
         cells = same-cells x y trace;
         registers = same-registers x y trace;
+        slip = same-slip a (a .readings) run (same-taken x y trace);
       }
 
 -- A record's bytes, told apart.
@@ -160,13 +176,20 @@ module _ (program start recorded : List ℕ) (a : Accepted) (bound : AreBytes re
   other-start other readings read differ =
       let f = Starts.from-other (a .program) (a .readings) readings (parts .items) (a .run) (parts .replayed) differ in
       let same : verdictOn (a .run) ≡ verdictOn (f .too) = ap₂ verdict (f .opened) (ap edgesOf (f .events)) in
+      let too : IsAccepted program other recorded (another a readings (f .too)) = rw (parts .program-read, read, parts .record-read, f .replayed) in
       record {
         run = f .too;
-        accepted = rw (parts .program-read, read, parts .record-read, f .replayed);
+        accepted = too;
         answer = λ k m. answer-is k ∙ ap answered same ∙ sym (answer-is m);
         groups = λ k m. groups-are k ∙ ap listed same ∙ sym (groups-are m);
         listed-cells = λ k m rank cell r c agree. entry-is k rank cell r c ∙ ap some (f .cells rank cell agree) ∙ sym (entry-is m rank cell r c);
+        own-cells = λ m rank cell r c differs.
+            entry-is m rank cell r c ∙
+            ap some
+            (facts-of (recorded-run program other recorded (another a readings (f .too)) bound too) .cells-end rank cell ∙
+            never-accessed readings (f .too .events) rank cell (subst (λ events. ¬ (Accesses events rank cell)) (f .events) (differ rank cell differs)));
         registers = f .registers;
+        slip = same-slip a readings (f .too) (f .taken);
       }
 
 -- The page.

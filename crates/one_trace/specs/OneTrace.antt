@@ -3,7 +3,7 @@
 use Prim.Native.Nat.{ℕ, _+_, _*_, _-_}
 use mathlib.Core.Path.{_≡_}
 use mathlib.Core.List.{List, _∷_, _++_}
-use mathlib.Core.Option.{Option}
+use mathlib.Core.Option.{Option, some}
 use lib.ListN.{length, getElem?}
 use Rattle.model.specs.declared.Answer.{Answer}
 use Rattle.model.specs.declared.Answer.the-variants.{Order, Ring}
@@ -17,6 +17,7 @@ use Rattle.model.specs.Rules.{Rank, Cell}
 use Rattle.model.specs.Replay.{Replayed}
 use Rattle.model.specs.Traces.{SameTrace}
 use Rattle.model.specs.Checks.{Accepted, Outcome, check, checkBytes}
+use Rattle.model.specs.Slips.{slipOf}
 use Rattle.record_bytes.specs.RecordBytes.{itemBytes, itemsBytes}
 use Rattle.traces.specs.Claims.{Exchangeable, DifferOffAccesses}
 use Rattle.demands.specs.Entries.{Form, numbers, bytes, entries, firstEntries}
@@ -53,12 +54,14 @@ pub data SameKind : Answer → Answer → Type 0 where
   orders : (n : ℕ) → SameKind (Order n) (Order n)
   rings : (n : ℕ) → SameKind (Ring n) (Ring n)
 
--- Two accepted records of one program and start "get, with long enough memory, the same kind of answer and end with the same cells and registers".
+-- Two accepted records of one program and start "get, with long enough memory, the same kind of answer and end with the same cells and registers". They
+-- have the same slip, too.
 pub record SameEnd (program start recorded other : List ℕ) (a b : Accepted) : Type 0 where
   pub kind : (k : Call program start recorded a) (m : Call program start other b) → SameKind (outcomeOf k .answer) (outcomeOf m .answer)
   pub listed-cells : (k : Call program start recorded a) (m : Call program start other b) → cellsIn k ≡ cellsIn m
   pub cells : (rank cell : ℕ) → a .run .last .machine .cells rank cell ≡ b .run .last .machine .cells rank cell
   pub registers : (rank : ℕ) → a .run .last .machine .registers rank ≡ b .run .last .machine .registers rank
+  pub slip : slipOf a ≡ slipOf b
 
 -- The program of an accepted record from these readings, with this run.
 abbrev pub another : Accepted → Start → Replayed → Accepted
@@ -81,7 +84,7 @@ pub record Exchanged (program start recorded : List ℕ) (a : Accepted) (before 
   pub same : SameEnd program start recorded (neighbours count before y x after) a (another a (a .readings) run)
 
 -- From the other start, which has these readings, the record is accepted "with the same order or ring, and all other cells agree at the end": those in
--- which the starts do not differ.
+-- which the starts do not differ. A cell in which they do keeps its reading. The slip is the same.
 pub record FromOther (program start other recorded : List ℕ) (a : Accepted) (readings : Start) : Type 0 where
   pub run : Replayed
   pub accepted : IsAccepted program other recorded (another a readings run)
@@ -91,7 +94,11 @@ pub record FromOther (program start other recorded : List ℕ) (a : Accepted) (r
   pub listed-cells : (k : Call program start recorded a) (m : Call program other recorded (another a readings run)) →
       (rank cell : ℕ) → Rank (a .program) rank → Cell (a .program) cell → a .readings rank cell ≡ readings rank cell →
       entryOf k rank cell ≡ entryOf m rank cell
+  pub own-cells : (m : Call program other recorded (another a readings run)) →
+      (rank cell : ℕ) → Rank (a .program) rank → Cell (a .program) cell → ¬ (a .readings rank cell ≡ readings rank cell) →
+      entryOf m rank cell ≡ some (readings rank cell)
   pub registers : (rank : ℕ) → a .run .last .machine .registers rank ≡ run .last .machine .registers rank
+  pub slip : slipOf a ≡ slipOf (another a readings run)
 
 -- The three claims, of an accepted record.
 pub record OneTraceOnePage (program start recorded : List ℕ) (a : Accepted) : Type 0 where

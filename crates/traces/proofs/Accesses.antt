@@ -13,7 +13,7 @@ use Rattle.model.specs.Replay.{Event, Replay, Replayed, accessOf}
 use Rattle.model.specs.HappensBefore.{At, overwrites, conflict}
 use Rattle.model.proofs.Actions.{Asks, loading, storing, assigning, passing, reading, writing, meeting, action-asks}
 use Rattle.record_facts.proofs.Moves.{Move, commands, fetches, delivers}
-use Rattle.record_facts.proofs.Trajectory.{accepted, move-at}
+use Rattle.record_facts.proofs.Trajectory.{AcceptedRun, accepted, move-at}
 use Rattle.serializability.proofs.Cells.{writesTo}
 use Rattle.traces.specs.Claims.{RecordedRun}
 
@@ -55,10 +55,13 @@ move-writes {P} {s} (commands i t a c) =
 move-writes (fetches i a rest c) = rw (c .kind-is) refl
 move-writes (delivers i b rest c) = rw (c .kind-is) refl
 
+-- The run of an accepted record, step by step.
+abbrev pub run-of : {P : Program} {start : Start} {run : Replayed} (a : RecordedRun P start run) → AcceptedRun P start (a .items) run
+run-of {P} {start} {run} a = accepted P start (a .items) run (a .in-record) (a .replayed)
+
 pub kind-writes : {P : Program} {start : Start} {run : Replayed} → RecordedRun P start run → (i : ℕ) (e : Event) → At (run .events) i e →
     WritesAs (writesKind (e .item .kind)) (e .access)
-kind-writes {P} {start} {run} a i e at =
-    move-writes (move-at (accepted P start (a .items) run (a .in-record) (a .replayed) .whole) i e at .step)
+kind-writes a i e at = move-writes (move-at (run-of a .whole) i e at .step)
 
 -- Accesses of one cell that write alike are alike, as far as conflicts go.
 pub data WriteAlike : Option Access → Option Access → Type 0 where

@@ -23,12 +23,13 @@ use Rattle.model.specs.Traces.{cellOf, valueAt, SameTrace, SameValues, commandO
 use Rattle.model.proofs.Laws.{decided, and-true, getElem?-bound}
 use Rattle.model.proofs.Replay.{sameAddress-true, true-sameAddress}
 use Rattle.record_facts.specs.Facts.{Facts, Local, countOf, cellsAfter}
+use Rattle.record_facts.proofs.Counts.{counted}
 use Rattle.serializability.proofs.Cells.{writesTo}
 use Rattle.model.proofs.ItemKinds.{fetch-kind, delivery-kind}
 use Rattle.serializability.proofs.Identity.{compared, identity-unique, at-unique}
 use Rattle.serializability.proofs.CommandKinds.{twin-command, same-transition}
 use Rattle.traces.specs.Claims.{RecordedRun}
-use Rattle.traces.proofs.Accesses.{cellIn, valueIn, writesKind, writes-as, kind-writes, writes-same, WriteAlike, neither, both}
+use Rattle.traces.proofs.Accesses.{run-of, cellIn, valueIn, writesKind, writes-as, kind-writes, writes-same, WriteAlike, neither, both}
 use Rattle.traces.proofs.Pairs.{facts-of, Pair, pair, paired, paired′, pair-kind, pair-alike, pair-order}
 use Rattle.traces.proofs.LastWrites.{Last, untouched, by, last}
 use Rattle.traces.proofs.Steps.{same-act, same-step, write-value, CommandAt, command-at, previous, fetch-of}
@@ -206,11 +207,14 @@ module _ {P : Program} {start : Start} {run run′ : Replayed} (a : RecordedRun 
       ap (λ l. cellsAfter start l rank cell) (take-length (run′ .events)) ∙
       sym (f′ .cells-end rank cell)
 
-  -- The last registers and control states: those after a rank's last command.
+  -- The counts of each rank's commands; its last registers and control state are those after the last.
   same-count : (rank : ℕ) → countOf rank (run .events) ≡ countOf rank (run′ .events)
   same-count rank =
       sym (length-map (select (commandOf rank) (run .events)) (λ e. e .item .transition)) ∙ ap length (trace .transitions rank) ∙
       length-map (select (commandOf rank) (run′ .events)) (λ e. e .item .transition)
+
+  pub same-taken : (rank : ℕ) → run .last .taken rank ≡ run′ .last .taken rank
+  same-taken rank = counted (run-of a .whole) rank ∙ same-count rank ∙ sym (counted (run-of a′ .whole) rank)
 
   local-end : (rank n : ℕ) → countOf rank (run .events) ≡ n → SameLocal rank n
   local-end rank zero is = f .local-start rank ∙ sym (f′ .local-start rank)

@@ -6,15 +6,18 @@ use mathlib.Core.List.{List, [], _∷_}
 use mathlib.Core.Option.{Option, some, none, Option·none-ne-some, Option·some-injective}
 use native.Mathlib.Nat.{not-suc-le-zero, le-of-suc-le-suc}
 use native.Mathlib.Omega.{arith}
-use lib.ListN.{take}
+use lib.ListN.{length, take}
+use lib.Seq.{take-length}
 use Rattle.model.specs.declared.Address.{Address}
-use Rattle.model.specs.Machine.{Start, Access, put₂}
+use Rattle.model.specs.Machine.{Start, Access, address, put₂}
 use Rattle.model.specs.Replay.{Event, sameAddress}
 use Rattle.model.specs.HappensBefore.{At}
 use Rattle.model.specs.Traces.{valueAt}
 use Rattle.model.proofs.Laws.{decided, and-true}
+use Rattle.model.proofs.Replay.{sameAddress-true}
 use Rattle.record_facts.specs.Facts.{written, cellsAfter}
 use Rattle.serializability.proofs.Cells.{writesTo, written-elsewhere}
+use Rattle.traces.specs.Claims.{Accesses}
 use Rattle.traces.proofs.Accesses.{valueIn}
 
 -- The last write to a cell among the first events, so many, or that there is none; and the cell's contents then.
@@ -64,3 +67,20 @@ last start (e ∷ events) (suc i) p = go (last (written start (e .access)) event
             (k : ℕ) (z : Event) → k < suc i → At (e ∷ events) k z → writesTo p (z .access) ≡ false
         also h w zero z less at = ap (λ (x : Event). writesTo p (x .access)) (sym (Option·some-injective e z at)) ∙ w
         also h w (suc k) z less at = h k z (le-of-suc-le-suc less) at
+
+-- A cell that no event accesses holds at the end what it held at the start.
+writes-access : (p : Address) (x : Option Access) → writesTo p x ≡ true → (a : Access) × (x ≡ some a) × (a .address ≡ p)
+unfolding writesTo
+writes-access p none h = absurd (false≢true h)
+writes-access p (some a) h = (a, refl, sym (sameAddress-true p (a .address) (and-true (sameAddress p (a .address)) (a .writes) h .0)))
+
+pub never-accessed : (start : Start) (events : List Event) (rank cell : ℕ) → ¬ (Accesses events rank cell) →
+    cellsAfter start events rank cell ≡ start rank cell
+never-accessed start events rank cell never =
+    ap (λ l. cellsAfter start l rank cell) (sym (take-length events)) ∙ go (last start events (length events) (address rank cell))
+  where
+    go : Last start events (length events) (address rank cell) → cellsAfter start (take (length events) events) rank cell ≡ start rank cell
+    go (untouched none-writes same) = same
+    go (by k z less at writes none-between value) =
+        let (a, access, here) = writes-access (address rank cell) (z .access) writes in
+        absurd (never (record { i = k; e = z; a = a; at = at; access = access; here = here }))

@@ -70,6 +70,7 @@ module _ (P : Program) (start other : Start) where
     pub opened : run .last .opened ≡ too .last .opened
     pub cells : (rank cell : ℕ) → start rank cell ≡ other rank cell → run .last .machine .cells rank cell ≡ too .last .machine .cells rank cell
     pub registers : (rank : ℕ) → run .last .machine .registers rank ≡ too .last .machine .registers rank
+    pub taken : (rank : ℕ) → run .last .taken rank ≡ too .last .taken rank
 
   pub from-other : (items : List Item) (run : Replayed) → replay P start items ≡ ok run → DifferOffAccesses start other (run .events) →
       FromOther items run
@@ -84,4 +85,5 @@ module _ (P : Program) (start other : Start) where
         opened = later .related .opened;
         cells = later .related .cells;
         registers = λ r. later .related .ranks r .registers;
+        taken = λ r. later .related .ranks r .taken;
       }
