@@ -30,7 +30,8 @@ use Rattle.model.proofs.Laws.{refused≢ok, and-true, between-true}
 use Rattle.model.proofs.Tables.{everyRow}
 use Rattle.model.proofs.ItemForms.{today-maps, form-is, each-map}
 use Rattle.record_bytes.specs.RecordBytes.{part, isGiven, givenBytes, mapOf, itemMap, fieldBytes, itemBytes}
-use Rattle.record_bytes.proofs.Spans.{Spans, OneByte, spans-weaker, spans-pure, spans-bind, spans-here, spans-judged, spans-part, spans-byte, spans-word}
+use Rattle.record_bytes.proofs.Spans.{Spans, OneByte, spans-weaker, spans-pure, spans-bind, spans-here, spans-judged, spans-part, spans-byte}
+use Rattle.record_bytes.proofs.Spans.{spans-word}
 
 -- What is said of the low byte, whole number or not; of the value and of the remote rank, whose bit stands exactly if there is one; and of
 -- the transition's number: its low byte is the one that was read, and bit 7 stands exactly if it does not fit a byte.

@@ -18,12 +18,14 @@ use Rattle.model.specs.Choice.{between, bit, Each, all, one}
 use Rattle.model.specs.Bytes.{pure, word, wordBytes, judged, optional, times}
 use Rattle.model.specs.ItemKinds.{kindNumber, hasPlace, isCommandKind, Part, command, fetch, delivery, partOf, isCommandPart}
 use Rattle.model.specs.ItemForms.{judgedItemForm, good}
-use Rattle.model.specs.Records.{field, lowByte, highByte, givenValue, itemFields, readItemIn, readItem, recordReaderIn, recordReader, readRecordIn, readRecord}
+use Rattle.model.specs.Records.{field, lowByte, highByte, givenValue, itemFields, readItemIn, readItem, recordReaderIn, recordReader, readRecordIn}
+use Rattle.model.specs.Records.{readRecord}
 use Rattle.model.specs.Traces.{ChosenIn, InRecord}
 use Rattle.model.proofs.Laws.{decided, Within, true-between, true-and}
 use Rattle.model.proofs.ItemForms.{today-maps, form-only}
 use Rattle.record_bytes.specs.RecordBytes.{part, isGiven, givenBytes, itemMap, fieldBytes, itemBytes, itemsBytes, recordBytes, Shown, Writable}
-use Rattle.record_bytes.proofs.Gives.{Gives, gives-byte, gives-word, gives-pure, gives-bind, gives-then, gives-here, gives-judged, gives-optional, gives-whole}
+use Rattle.record_bytes.proofs.Gives.{Gives, gives-byte, gives-word, gives-pure, gives-bind, gives-then, gives-here, gives-judged}
+use Rattle.record_bytes.proofs.Gives.{gives-optional, gives-whole}
 use Rattle.record_bytes.proofs.ItemMaps.{Bits, item-bits, item-bytes, has-map, not-true, not-false}
 
 gives-field : (test : ℕ → Bool) {v : ℕ} → test v ≡ true → Gives (field test) (v ∷ []) v

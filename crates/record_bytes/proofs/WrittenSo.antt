@@ -20,10 +20,12 @@ use Rattle.model.specs.Bytes.{AreBytes, Found, Reader, here, byte, word, wordBy
 use Rattle.model.specs.ItemKinds.{itemKinds, hasPlace, isCommandKind}
 use Rattle.model.specs.Formats.{HasMap, itemMaps}
 use Rattle.model.specs.Machine.{address}
-use Rattle.model.specs.Records.{field, lowByte, highByte, givenValue, itemFields, readItemIn, readItem, recordReaderIn, recordReader, readRecordIn, readRecord}
+use Rattle.model.specs.Records.{field, lowByte, highByte, givenValue, itemFields, readItemIn, readItem, recordReaderIn, recordReader, readRecordIn}
+use Rattle.model.specs.Records.{readRecord}
 use Rattle.model.specs.Replay.{every}
 use Rattle.model.proofs.Laws.{and-true, each-both, bind-ok, ok-injective}
-use Rattle.model.proofs.Bytes.{Finds, finds-anything, finds-pure, finds-bind, finds-weaker, finds-times, finds-counted, finds-judged, whole-ok, whole-finds, judged-ok, times-none, times-more}
+use Rattle.model.proofs.Bytes.{Finds, finds-anything, finds-pure, finds-bind, finds-weaker, finds-times, finds-counted, finds-judged, whole-ok}
+use Rattle.model.proofs.Bytes.{whole-finds, judged-ok, times-none, times-more}
 use Rattle.model.proofs.Standing.{word-stands}
 use Rattle.model.proofs.Tables.{everyRow}
 use Rattle.model.proofs.ItemForms.{each-map, form-finds}

@@ -17,7 +17,8 @@ use Rattle.model.specs.HappensBefore.{At, conflict}
 use Rattle.model.specs.Traces.{SameTrace, InRecord}
 use Rattle.model.proofs.Laws.{bind-ok, ok-injective, getElem?-behind}
 use Rattle.model.proofs.Replay.{ItemTaken, item-taken}
-use Rattle.model.proofs.TakenItems.{headed, taken-onward, onward-taken, event-item, taken-items, joined, takeItems-append, Ended, replay-taken, taken-replay}
+use Rattle.model.proofs.TakenItems.{headed, taken-onward, onward-taken, event-item, taken-items, joined, takeItems-append, Ended, replay-taken}
+use Rattle.model.proofs.TakenItems.{taken-replay}
 use Rattle.serializability.proofs.Alike.{Alike, AllAlike, none-alike, more-alike}
 use Rattle.traces.specs.Claims.{Exchangeable}
 use Rattle.traces.proofs.Views.{byPlace}
@@ -149,7 +150,9 @@ pub exchange : (P : Program) (start : Start) (before : List Item) (x y : Item) (
     Exchangeable (run .events) (length before) x y →
     (too : Replayed) × (replay P start (before ++ y ∷ x ∷ after) ≡ ok too) × SameTrace (run .events) (too .events)
 exchange P start before x y after run each h may =
-    let e = exchanged-run P start before x y after run h may in
-    (e .too, e .replayed,
-    turned-trace (record { items = before ++ x ∷ y ∷ after; in-record = each; replayed = h })
-    (record { items = before ++ y ∷ x ∷ after; in-record = each-exchanged before x y after each; replayed = e .replayed }) (e .turned))
+    let e = exchanged-run P start before x y after run h may in (
+      e .too,
+      e .replayed,
+      turned-trace (record { items = before ++ x ∷ y ∷ after; in-record = each; replayed = h })
+          (record { items = before ++ y ∷ x ∷ after; in-record = each-exchanged before x y after each; replayed = e .replayed }) (e .turned),
+    )

@@ -20,7 +20,8 @@ use Rattle.model.proofs.TakenItems.{Ended, headed, taken-onward, onward-taken}
 use Rattle.record_facts.specs.Facts.{written}
 use Rattle.serializability.proofs.Cells.{written-agree}
 use Rattle.traces.proofs.Views.{View}
-use Rattle.traces.proofs.Locality.{SameRank, SameEvent, AgreeAt, TakenToo, Opened, opens, keeps, taken-too, left-alone, taken-cells, seenRequest, seenDelivery}
+use Rattle.traces.proofs.Locality.{SameRank, SameEvent, AgreeAt, TakenToo, Opened, opens, keeps, taken-too, left-alone, taken-cells}
+use Rattle.traces.proofs.Locality.{seenRequest, seenDelivery}
 
 module _ (view : View) where
   pub same-sym : {r : ℕ} {s t : Replay} → SameRank view r s t → SameRank view r t s

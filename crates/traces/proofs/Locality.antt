@@ -8,8 +8,10 @@ use mathlib.Core.Option.{Option, some, none}
 use lib.Dec.{eqb}
 use Rattle.model.specs.declared.Item.{Item}
 use Rattle.model.specs.Programs.{Program, Transition}
-use Rattle.model.specs.Machine.{State, Request, Delivery, Access, readOf, writeOf, address, cellAt, put, put₂, moveTo, setRegister, setCell, setRequests, setDeliveries, Action, loads, stores, assigns, passes, issues, meets, action}
-use Rattle.model.specs.Replay.{Event, Origin, Replay, Taken, rowAllows, rowAfter, openedAfter, agreesWith, accessOf, perform, originOf, afterCommand, afterFetch, afterDelivery, requestFor, deliveryFor, oldest}
+use Rattle.model.specs.Machine.{State, Request, Delivery, Access, readOf, writeOf, address, cellAt, put, put₂, moveTo, setRegister, setCell}
+use Rattle.model.specs.Machine.{setRequests, setDeliveries, Action, loads, stores, assigns, passes, issues, meets, action}
+use Rattle.model.specs.Replay.{Event, Origin, Replay, Taken, rowAllows, rowAfter, openedAfter, agreesWith, accessOf, perform, originOf}
+use Rattle.model.specs.Replay.{afterCommand, afterFetch, afterDelivery, requestFor, deliveryFor, oldest}
 use Rattle.model.proofs.Laws.{decided, put-same, put-other, put₂-row, put₂-other-row}
 use Rattle.model.proofs.Replay.{CommandTaken, FetchTaken, DeliveryTaken, ItemTaken, commands, fetches, delivers}
 use Rattle.model.proofs.Erasing.{erased-taken, Marked, taken-marked}

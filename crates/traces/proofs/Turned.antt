@@ -136,6 +136,6 @@ turned-trace a a′ t =
       order = λ x x′ y y′ mx mx′ my my′ same same′ c. (
         order-kept a′ t my my′ same same′ c,
         order-kept a (turned-sym t) mx mx′ (identified-sym same) (identified-sym same′)
-        (ap₂ conflict (sym (same-access a′ t mx my same)) (sym (same-access a′ t mx′ my′ same′)) ∙ c),
+            (ap₂ conflict (sym (same-access a′ t mx my same)) (sym (same-access a′ t mx′ my′ same′)) ∙ c),
       );
     }
