@@ -1,4 +1,4 @@
--- The three claims hold of every accepted record. Its bytes are read as items, and the theorems of items are said of what is written of them; what the
+-- The claims hold of every accepted record. Its bytes are read as items, and the theorems of items are said of what is written of them; what the
 -- check answers goes by the run alone.
 use Prim.Native.Nat.{ℕ, suc, _≤_}
 use mathlib.Core.Path.{_≡_, refl, sym, ap, ap₂, subst, _∙_, fun-ext}
@@ -30,7 +30,7 @@ use Rattle.record_bytes.proofs.WrittenSo.{read-writable, read-few, written-so}
 use Rattle.record_bytes.proofs.ReadBack.{read-back}
 use Rattle.record_bytes.proofs.SmallBytes.{record-small}
 use Rattle.record_bytes.proofs.Accepting.{accept-written}
-use Rattle.traces.specs.Claims.{RecordedRun, Exchangeable, Accesses, DifferOffAccesses}
+use Rattle.traces.specs.Claims.{RecordedRun, Exchangeable, Accesses, DifferOffAccesses, SameLogs}
 use Rattle.traces.specs.Claims as Verdicts
 use Rattle.traces.proofs.Pairs.{facts-of}
 use Rattle.traces.proofs.LastWrites.{never-accessed}
@@ -38,8 +38,9 @@ use Rattle.traces.proofs.Contents.{same-cells, same-registers, same-taken}
 use Rattle.traces.proofs.Verdicts.{same-kind}
 use Rattle.traces.proofs.Starts as Starts
 use Rattle.traces.proofs.Exchange as Items
+use Rattle.traces.proofs.Merging.{Merged, merged}
 use Rattle.demands.specs.Demands.{IsAccepted}
-use Rattle.one_trace.specs.OneTrace.{outcomeOf, SameKind, orders, rings, SameEnd, another, neighbours, Exchanged, FromOther, OneTraceOnePage}
+use Rattle.one_trace.specs.OneTrace.{outcomeOf, SameKind, orders, rings, SameEnd, another, AcceptedToo, neighbours, Exchanged, FromOther, OneTraceOnePage}
 use Rattle.one_trace.proofs.Answers.{answer-is, groups-are, cells-are, entry-is}
 
 -- Verdicts of one kind are answered alike.
@@ -127,6 +128,11 @@ module _ (program start recorded : List ℕ) (a : Accepted) (bound : AreBytes re
       (recorded-run program start other (another a (a .readings) (b .run)) bound′ (subst (IsAccepted program start other) (sym is) accepted′))
       trace)
 
+  -- The record's items, as they are read, are what is replayed.
+  replayed-as : (items : List Item) → readRecord (a .program .header) recorded ≡ ok items → replay (a .program) (a .readings) items ≡ ok (a .run)
+  replayed-as items read =
+      subst (λ l. replay (a .program) (a .readings) l ≡ ok (a .run)) (ok-injective (sym (parts .record-read) ∙ read)) (parts .replayed)
+
   module _ (before : List Item) (x y : Item) (after : List Item) (read : readRecord (a .program .header) recorded ≡ ok (before ++ x ∷ y ∷ after))
       (may : Exchangeable (a .run .events) (length before) x y) where
     each : Each (Writable (a .program .header)) (before ++ x ∷ y ∷ after)
@@ -139,8 +145,7 @@ module _ (program start recorded : List ℕ) (a : Accepted) (bound : AreBytes re
     few = rw (as-many before x y after) (read-few (a .program .header) recorded read)
 
     replayed : replay (a .program) (a .readings) (before ++ x ∷ y ∷ after) ≡ ok (a .run)
-    replayed =
-        subst (λ items. replay (a .program) (a .readings) items ≡ ok (a .run)) (ok-injective (sym (parts .record-read) ∙ read)) (parts .replayed)
+    replayed = replayed-as (before ++ x ∷ y ∷ after) read
 
     in-record : {items : List Item} → Each (Writable (a .program .header)) items → Each (InRecord (a .program .header)) items
     in-record = each-weaker (λ i w. w .in-record)
@@ -159,16 +164,35 @@ module _ (program start recorded : List ℕ) (a : Accepted) (bound : AreBytes re
           read =
               subst (λ l. readRecord (a .program .header) l ≡ ok (before ++ y ∷ x ∷ after)) written
               (read-back (a .program .header) (before ++ y ∷ x ∷ after) each′ few);
-          run = run;
-          accepted =
-              subst (λ l. IsAccepted program start l (another a (a .readings) run)) written
-              (accept-written program start (parts .program-read) (parts .start-read) each′ few taken);
-          trace = trace;
-          same =
-              same-end program start recorded _ a run some-rank
-              (record { items = before ++ x ∷ y ∷ after; in-record = in-record each; replayed = replayed })
-              (record { items = before ++ y ∷ x ∷ after; in-record = in-record each′; replayed = taken }) trace;
+          too =
+              record {
+                run = run;
+                accepted =
+                    subst (λ l. IsAccepted program start l (another a (a .readings) run)) written
+                    (accept-written program start (parts .program-read) (parts .start-read) each′ few taken);
+                trace = trace;
+                same =
+                    same-end program start recorded _ a run some-rank
+                    (record { items = before ++ x ∷ y ∷ after; in-record = in-record each; replayed = replayed })
+                    (record { items = before ++ y ∷ x ∷ after; in-record = in-record each′; replayed = taken }) trace;
+              };
         }
+
+  any-merge : (items others : List Item) → readRecord (a .program .header) recorded ≡ ok items → (other : List ℕ) → AreBytes other →
+      readRecord (a .program .header) other ≡ ok others → SameLogs items others → AcceptedToo program start recorded other a
+  unfolding acceptIn
+  any-merge items others read other bound′ read′ logs =
+      let each = read-in-record (a .program .header) recorded bound read in
+      let h = replayed-as items read in
+      let m : Merged (a .program) (a .readings) others (a .run) = merged items others (a .run) each h logs in
+      record {
+        run = m .too;
+        accepted = rw (parts .program-read, parts .start-read, read′, m .replayed);
+        trace = m .trace;
+        same =
+            same-end program start recorded other a (m .too) some-rank (record { items = items; in-record = each; replayed = h })
+            (record { items = others; in-record = m .in-record; replayed = m .replayed }) (m .trace);
+      }
 
   other-start : (other : List ℕ) (readings : Start) → readStart (a .program .header) other ≡ ok readings →
       DifferOffAccesses (a .readings) readings (a .run .events) → FromOther program start other recorded a readings
@@ -200,4 +224,5 @@ one-trace-one-page program start recorded a bound accepted =
       one-trace = one-trace program start recorded a bound accepted;
       exchange = exchange program start recorded a bound accepted;
       other-start = other-start program start recorded a bound accepted;
+      any-merge = any-merge program start recorded a bound accepted;
     }

@@ -1,5 +1,5 @@
 -- "One trace, one page" (document 02, #112): its three claims, of program, start and record bytes, and of what the check answers with long enough
--- memory, whichever form the lent lists have.
+-- memory, whichever form the lent lists have; and what follows for whoever merges logs.
 use Prim.Native.Nat.{ℕ, _+_, _*_, _-_}
 use mathlib.Core.Path.{_≡_}
 use mathlib.Core.List.{List, _∷_, _++_}
@@ -19,7 +19,7 @@ use Rattle.model.specs.Traces.{SameTrace}
 use Rattle.model.specs.Checks.{Accepted, Outcome, check, checkBytes}
 use Rattle.model.specs.Slips.{slipOf}
 use Rattle.record_bytes.specs.RecordBytes.{itemBytes, itemsBytes}
-use Rattle.traces.specs.Claims.{Exchangeable, DifferOffAccesses}
+use Rattle.traces.specs.Claims.{Exchangeable, DifferOffAccesses, SameLogs}
 use Rattle.demands.specs.Entries.{Form, numbers, bytes, entries, firstEntries}
 use Rattle.demands.specs.Demands.{IsAccepted, Answerable, cellsOf, countIn}
 
@@ -67,21 +67,25 @@ pub record SameEnd (program start recorded other : List ℕ) (a b : Accepted) : 
 abbrev pub another : Accepted → Start → Replayed → Accepted
 another a readings run = record { program = a .program; readings = readings; run = run }
 
+-- Another record, which is accepted with the same trace; so all that goes by it is the same.
+pub record AcceptedToo (program start recorded other : List ℕ) (a : Accepted) : Type 0 where
+  pub run : Replayed
+  pub accepted : IsAccepted program start other (another a (a .readings) run)
+  pub trace : SameTrace (a .run .events) (run .events)
+  pub same : SameEnd program start recorded other a (another a (a .readings) run)
+
 -- A record's bytes, with those of two neighbouring items told apart: the count and the items before them, the one, the other, and the items behind.
 abbrev pub neighbours : (count : ℕ) (before : List Item) (x y : Item) (after : List Item) → List ℕ
 neighbours count before x y after = wordBytes count ++ (itemsBytes before ++ (itemBytes x ++ (itemBytes y ++ itemsBytes after)))
 
--- The record whose items are `before`, x, y and `after` has their bytes in this order; with the two byte strings exchanged it is accepted, its trace is
--- the same, and so is all that goes by it.
+-- The record whose items are `before`, x, y and `after` has their bytes in this order; with the two byte strings exchanged its items are exchanged, and
+-- it is accepted too.
 pub record Exchanged (program start recorded : List ℕ) (a : Accepted) (before : List Item) (x y : Item) (after : List Item) : Type 0 where
   pub count : ℕ
   pub stands : recorded ≡ neighbours count before x y after
   pub are-bytes : AreBytes (neighbours count before y x after)
   pub read : readRecord (a .program .header) (neighbours count before y x after) ≡ ok (before ++ y ∷ x ∷ after)
-  pub run : Replayed
-  pub accepted : IsAccepted program start (neighbours count before y x after) (another a (a .readings) run)
-  pub trace : SameTrace (a .run .events) (run .events)
-  pub same : SameEnd program start recorded (neighbours count before y x after) a (another a (a .readings) run)
+  pub too : AcceptedToo program start recorded (neighbours count before y x after) a
 
 -- From the other start, which has these readings, the record is accepted "with the same order or ring, and all other cells agree at the end": those in
 -- which the starts do not differ. A cell in which they do keeps its reading. The slip is the same.
@@ -100,7 +104,7 @@ pub record FromOther (program start other recorded : List ℕ) (a : Accepted) (r
   pub registers : (rank : ℕ) → a .run .last .machine .registers rank ≡ run .last .machine .registers rank
   pub slip : slipOf a ≡ slipOf (another a readings run)
 
--- The three claims, of an accepted record.
+-- The claims, of an accepted record.
 pub record OneTraceOnePage (program start recorded : List ℕ) (a : Accepted) : Type 0 where
   -- "two accepted records of one program and start with the same trace get, with long enough memory, the same kind of answer and end with the same
   -- cells and registers"
@@ -114,3 +118,7 @@ pub record OneTraceOnePage (program start recorded : List ℕ) (a : Accepted) : 
   -- or ring, and all other cells agree at the end"
   pub other-start : (other : List ℕ) (readings : Start) → readStart (a .program .header) other ≡ ok readings →
       DifferOffAccesses (a .readings) readings (a .run .events) → FromOther program start other recorded a readings
+  -- Any record that is another merge of the same logs is as good: each rank's items and the rows stand in the same order, and so do each cell's accesses
+  -- where one of two writes.
+  pub any-merge : (items others : List Item) → readRecord (a .program .header) recorded ≡ ok items → (other : List ℕ) → AreBytes other →
+      readRecord (a .program .header) other ≡ ok others → SameLogs items others → AcceptedToo program start recorded other a

@@ -28,8 +28,8 @@ use Rattle.serializability.proofs.Cells.{writesTo}
 use Rattle.model.proofs.ItemKinds.{fetch-kind, delivery-kind}
 use Rattle.serializability.proofs.Identity.{compared, identity-unique, at-unique}
 use Rattle.serializability.proofs.CommandKinds.{twin-command, same-transition}
-use Rattle.traces.specs.Claims.{RecordedRun}
-use Rattle.traces.proofs.Accesses.{run-of, cellIn, valueIn, writesKind, writes-as, kind-writes, writes-same, WriteAlike, neither, both}
+use Rattle.traces.specs.Claims.{RecordedRun, writesKind}
+use Rattle.traces.proofs.Accesses.{run-of, cellIn, valueIn, writes-as, kind-writes, writes-same, WriteAlike, neither, both}
 use Rattle.traces.proofs.Pairs.{facts-of, Pair, pair, paired, paired′, pair-kind, pair-alike, pair-order}
 use Rattle.traces.proofs.LastWrites.{Last, untouched, by, last}
 use Rattle.traces.proofs.Steps.{same-act, same-step, write-value, CommandAt, command-at, previous, fetch-of}

@@ -1,15 +1,29 @@
 -- On accepted records of a program "same trace" is an equivalence: each has its own, what conflicts in one conflicts in the other, and every event has
 -- its counterpart.
-use mathlib.Core.Path.{sym, _∙_}
+use mathlib.Core.Path.{_≡_, refl, sym, _∙_, ap, subst₂}
 use Rattle.model.specs.Programs.{Program}
 use Rattle.model.specs.Machine.{Start}
 use Rattle.model.specs.Replay.{Event, Replayed}
-use Rattle.model.specs.Traces.{_∈_, SameTrace}
-use Rattle.serializability.proofs.Identity.{identified-sym, identified-trans}
+use Rattle.model.specs.Traces.{Identified, Precedes, _∈_, cellOf, SameTrace}
+use Rattle.serializability.proofs.Identity.{identified-sym, identified-trans, identity-unique, at-unique}
 use Rattle.serializability.proofs.Correspondence.{Counterpart, counterpart}
 use Rattle.traces.specs.Claims.{RecordedRun}
 use Rattle.traces.proofs.Accesses.{conflict-same}
 use Rattle.traces.proofs.Pairs.{facts-of, pair, pair-alike}
+
+pub same-trace-refl : {P : Program} {start : Start} {run : Replayed} → RecordedRun P start run → SameTrace (run .events) (run .events)
+same-trace-refl {run = run} a =
+    record {
+      transitions = λ rank. refl;
+      cells = λ x y mx my same. ap cellOf (one mx my same);
+      order = λ x x′ y y′ mx mx′ my my′ same same′ conflicts.
+          let is = one mx my same in
+          let is′ = one mx′ my′ same′ in
+          (subst₂ (Precedes (run .events)) is is′, subst₂ (Precedes (run .events)) (sym is) (sym is′));
+    }
+  where
+    one : {x y : Event} → x ∈ run .events → y ∈ run .events → Identified x y → x ≡ y
+    one (i, ax) (j, ay) same = at-unique (facts-of a) ax ay (identity-unique (facts-of a) i j ax ay same)
 
 pub same-trace-sym : {P : Program} {start start′ : Start} {run run′ : Replayed} → RecordedRun P start run → RecordedRun P start′ run′ →
     SameTrace (run .events) (run′ .events) → SameTrace (run′ .events) (run .events)

@@ -16,3 +16,4 @@ pub mod Starts
 pub mod Commuting
 pub mod Turned
 pub mod Exchange
+pub mod Merging

@@ -17,8 +17,8 @@ use Rattle.record_facts.proofs.FactsHold.{facts}
 use Rattle.serializability.proofs.Identity.{identified-sym, identity-unique}
 use Rattle.serializability.proofs.CommandKinds.{Twins, same-kinds}
 use Rattle.serializability.proofs.Correspondence.{Counterpart, counterpart, twins}
-use Rattle.traces.specs.Claims.{RecordedRun}
-use Rattle.traces.proofs.Accesses.{writesKind, WritesAs, kind-writes, WriteAlike, write-alike}
+use Rattle.traces.specs.Claims.{RecordedRun, writesKind}
+use Rattle.traces.proofs.Accesses.{WritesAs, kind-writes, WriteAlike, write-alike}
 
 abbrev pub facts-of : {P : Program} {start : Start} {run : Replayed} (a : RecordedRun P start run) → Facts P start (a .items) run
 facts-of {P} {start} {run} a = facts P start (a .items) run (a .in-record) (a .replayed)
