@@ -3,12 +3,12 @@
 use Prim.Native.Nat.{ℕ, suc, _+_}
 use mathlib.Core.Path.{_≡_, refl, sym, _∙_, ap, subst}
 use mathlib.Core.Bool.{Bool, true, false, _&&_, _||_, true≢false}
-use mathlib.Core.List.{List, [], _∷_, _++_, map, append-assoc}
+use mathlib.Core.List.{List, [], _∷_, _++_, append-assoc}
 use mathlib.Core.Option.{Option, some, none, Option·some-injective}
 use native.Mathlib.Omega.{arith}
 use lib.Dec.{eqb}
 use lib.ListN.{length, getElem?}
-use borrow.Author.Tests.{eqb-true, eqb-false}
+use borrow.Author.Tests.{eqb-false}
 use Rattle.model.specs.declared.Address.{Address}
 use Rattle.model.specs.declared.Item.{Item}
 use Rattle.model.specs.Choice.{select, Each, all, one}
@@ -22,7 +22,6 @@ use Rattle.model.specs.Traces.{SameTrace, InRecord}
 use Rattle.model.proofs.Laws.{decided, and-true, true-and, eqb-refl, getElem?-behind, each-weaker}
 use Rattle.model.proofs.Selections.{select-yes, select-no, select-append, split-at}
 use Rattle.model.proofs.Replay.{sameAddress-true, true-sameAddress}
-use Rattle.record_facts.specs.Facts.{Facts}
 use Rattle.serializability.proofs.Groups.{at-map}
 use Rattle.traces.specs.Claims.{RecordedRun, Exchangeable, writesKind, inLog, atCell, SameLogs}
 use Rattle.traces.proofs.Accesses.{kind-writes, writes-as, item-placed}
