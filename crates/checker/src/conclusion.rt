@@ -5,8 +5,6 @@ use model::Answer;
 use model::Cells;
 use model::Header;
 use model::ITEMS;
-use model::RANKS;
-use model::REGISTERS;
 use model::Refusal;
 use model::TOLD;
 use model::Trail;
@@ -84,7 +82,7 @@ fn accepted(room: Room, header: Header, items: usize, groups: u16, trail: &Trail
     verdict_on(trail, items, groups, header)
 }
 
-// The whole check but for the writing. `cells` gets the last cells of an accepted record.
+// The whole check but for the writing. Of an accepted record `cells` gets the last cells.
 pub fn conclude(
     program: &[u8],
     start: &[u8],
@@ -96,18 +94,8 @@ pub fn conclude(
         (checkResult (now (program .entry)) (now (start .entry)) (now (recorded .entry)) (room .groups) (room .cells))
         room (now (cells .exit)) r ⌝ }
 {
-    let mut control = [0; RANKS];
-    let mut registers = [[0; REGISTERS]; RANKS];
     let mut trail = [[0; TOLD]; ITEMS];
-    match replay(
-        program,
-        start,
-        recorded,
-        &mut control,
-        &mut registers,
-        cells,
-        &mut trail,
-    ) {
+    match replay(program, start, recorded, cells, &mut trail) {
         Acceptance::Refused(refusal) => refused(refusal),
         Acceptance::Accepted {
             header,

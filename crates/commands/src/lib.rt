@@ -7,18 +7,16 @@ use entries::Pool;
 use items::access::access_number;
 use items::access::agrees_with;
 use items::kinds::same_kind;
-use items::rows::Progress;
 use items::rows::command_progress;
 use items::rows::group_of;
 use links::Ends;
 use machine::Outcome;
+use machine::Turn;
 use memory::control_of;
 use memory::registers_of;
 use memory::set_control;
 use model::Cells;
 use model::Control;
-use model::Header;
-use model::Item;
 use model::Refusal;
 use model::Registers;
 use model::refusals::ACCESS_DIFFERS;
@@ -38,21 +36,22 @@ ghost use Rattle.commands.specs.Commands.{actionOn, transitionOn, comman
 // "place or given value differs from the replay" comes last: with the action known, an item is taken or refused by its access alone.
 fn take_action(
     action: Action,
-    item: Item,
-    progress: Progress,
+    turn: Turn,
     target: u16,
-    ranks: u16,
     control: &mut Control,
     registers: &mut Registers,
     cells: &mut Cells,
     pool: &mut Pool,
     ends: &mut Ends,
 ) -> Outcome
-    ensures { λ r. ⌜ GoesBy (actionOn ranks item progress target (actionIn action))
+    ensures { λ r. ⌜ GoesBy (actionOn (turn .header .ranks) (turn .item) (turn .progress) target (actionIn action))
         (memory (now (control .entry)) (now (registers .entry)) (now (cells .entry)) (now (pool .entry)) (now (ends .entry)))
         (memory (now (control .exit)) (now (registers .exit)) (now (cells .exit)) (now (pool .exit)) (now (ends .exit)))
         r ⌝ }
 {
+    let header = turn.header;
+    let item = turn.item;
+    let progress = turn.progress;
     let rank = item.rank;
     let at = progress.at;
     let access = access_of(action, rank, cells);
@@ -63,7 +62,7 @@ fn take_action(
         });
     }
     let group = group_of(progress.opened, item);
-    let next = command_progress(progress, ranks, item);
+    let next = command_progress(progress, header.ranks, item);
     let access = access_number(access);
     perform(action, rank, at, group, registers, cells, pool, ends);
     set_control(control, rank, target);
@@ -77,20 +76,20 @@ fn take_action(
 // "A command item takes its transition from the rank's state": 7, then 18, then 8 and 9, then 11.
 fn take_transition(
     transition: Transition,
-    header: Header,
-    item: Item,
-    progress: Progress,
+    turn: Turn,
     control: &mut Control,
     registers: &mut Registers,
     cells: &mut Cells,
     pool: &mut Pool,
     ends: &mut Ends,
 ) -> Outcome
-    ensures { λ r. ⌜ GoesBy (transitionOn header item progress transition)
+    ensures { λ r. ⌜ GoesBy (transitionOn (turn .header) (turn .item) (turn .progress) transition)
         (memory (now (control .entry)) (now (registers .entry)) (now (cells .entry)) (now (pool .entry)) (now (ends .entry)))
         (memory (now (control .exit)) (now (registers .exit)) (now (cells .exit)) (now (pool .exit)) (now (ends .exit)))
         r ⌝ }
 {
+    let item = turn.item;
+    let progress = turn.progress;
     let rank = item.rank;
     let at = progress.at;
     let kind = item.kind;
@@ -108,21 +107,12 @@ fn take_transition(
     if !same_kind(kind_of(command), kind) {
         return wrong;
     }
-    let asked = action_of(command, header, rank, at);
+    let asked = action_of(command, turn.header, rank, at);
     match asked {
         Asked::Refused(refusal) => Outcome::Refused(refusal),
-        Asked::Does(action) => take_action(
-            action,
-            item,
-            progress,
-            target,
-            header.ranks,
-            control,
-            registers,
-            cells,
-            pool,
-            ends,
-        ),
+        Asked::Does(action) => {
+            take_action(action, turn, target, control, registers, cells, pool, ends)
+        }
     }
 }
 
@@ -130,23 +120,23 @@ fn take_transition(
 pub fn take_command(
     program: &[u8],
     start: usize,
-    header: Header,
-    item: Item,
-    progress: Progress,
+    turn: Turn,
     control: &mut Control,
     registers: &mut Registers,
     cells: &mut Cells,
     pool: &mut Pool,
     ends: &mut Ends,
 ) -> Outcome
-    ensures { λ r. ⌜ GoesBy (commandOn (now (program .entry)) start header item progress)
+    ensures { λ r. ⌜ GoesBy (commandOn (now (program .entry)) start (turn .header) (turn .item) (turn .progress))
         (memory (now (control .entry)) (now (registers .entry)) (now (cells .entry)) (now (pool .entry)) (now (ends .entry)))
         (memory (now (control .exit)) (now (registers .exit)) (now (cells .exit)) (now (pool .exit)) (now (ends .exit)))
         r ⌝ }
 {
+    let item = turn.item;
+    let progress = turn.progress;
     let rank = item.rank;
     let own = registers_of(registers, rank);
-    let read = read_transition(program, start, header, rank, own);
+    let read = read_transition(program, start, turn.header, rank, own);
     let TransitionRead::Read {
         transition,
         next: _,
@@ -157,15 +147,5 @@ pub fn take_command(
             place: progress.at,
         });
     };
-    take_transition(
-        transition,
-        header,
-        item,
-        progress,
-        control,
-        registers,
-        cells,
-        pool,
-        ends,
-    )
+    take_transition(transition, turn, control, registers, cells, pool, ends)
 }

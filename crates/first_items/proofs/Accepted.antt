@@ -32,7 +32,7 @@ trail-tells events i e at =
     let n : 0 + i ≡ i = omega arith in
     rw (n, filled-at rowOfEvent events (zeros trailSize) [] i at)
 
-pub run-firsts : (h : Header) (recorded : List ℕ) {items : List Item} (events : List Event) → ItemsFrom h recorded firstItem items →
+pub run-firsts : (h : Header) (recorded : List ℕ) {items : List Item} (events : List Event) {end : ℕ} → ItemsFrom h recorded firstItem items end →
     map (λ e. e .item) events ≡ items → length events ≤ maxItems → (g : ℕ) → g < maxItems →
     firstOf h recorded (firstItems h recorded (trailOf events) (length events)) g ≡ firstIn g 0 events
 unfolding firstItems

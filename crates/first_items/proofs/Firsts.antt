@@ -2,7 +2,6 @@
 -- by the first event of its group, whose item is read again at its place.
 use Prim.Native.Nat.{ℕ, zero, suc, _+_, _≤_, _<_}
 use mathlib.Core.Path.{_≡_, refl, sym, ap, subst, _∙_}
-use mathlib.Core.Bool.{true, false}
 use mathlib.Core.List.{List, [], _∷_, map}
 use mathlib.Core.Option.{some}
 use native.Mathlib.Omega.{arith}
@@ -113,12 +112,12 @@ module _ (h : Header) (recorded : List ℕ) (trail : Table) where
         ∙ ap (rowAgain h recorded) (kept left (number + 1) next (notedUnder g number place firsts) g is-set ∙ first)
         ∙ rw (lt-ltb number maxItems few, read)
 
-    pub finds : {place : ℕ} {items : List Item} (events : List Event) (number : ℕ) (firsts : Table) → ItemsFrom h recorded place items →
+    pub finds : {place : ℕ} {items : List Item} (events : List Event) (number : ℕ) (firsts : Table) {end : ℕ} → ItemsFrom h recorded place items end →
         map (λ e. e .item) events ≡ items → TellsGroups trail number events → number + length events ≤ maxItems →
         length firsts ≡ maxItems → maxItems ≤ numberIn firsts g → Finds (length events) number place firsts events
     unfolding firstsFrom firstIn
     finds [] number firsts from same tells few long none = sym (none-noted h recorded firsts g row none)
-    finds (e ∷ events) number firsts (ended p) same tells few long none = let z : _≡_ {A = ℕ} 0 1 = cc in absurd (omega arith)
+    finds (e ∷ events) number firsts ended same tells few long none = let z : _≡_ {A = ℕ} 0 1 = cc in absurd (omega arith)
     finds {place} (e ∷ events) number firsts (then {next = next} {item = item} {items = items} read from) same tells few long none =
         let is : e .item ≡ item = cc in
         let others : map (λ e. e .item) events ≡ items = cc in

@@ -7,11 +7,12 @@ use Rattle.model.specs.declared.Refusal.{Refusal}
 use Rattle.model.specs.Refusals.{Result, refused}
 use Rattle.model.specs.Checks.{Accepted, accept}
 use Rattle.model.specs.Listings.{Listing, printedOf, listingIn, listing}
-use Rattle.memory.specs.Tables.{Table}
+use Rattle.memory.specs.Tables.{Table, zeros}
 use Rattle.replay.specs.declared.Acceptance as Acceptance
 use Rattle.replay.specs.declared.Acceptance.{Acceptance}
-use Rattle.replay.specs.Handed.{Lent, HandsOver}
+use Rattle.replay.specs.Handed.{Lent, lent, HandsOver}
 use Rattle.replay.proofs.Accepting.{accept-refused, accept-found}
+use Rattle.trails.specs.Trails.{trailSize}
 use Rattle.judging.specs.Told.{verdictTold}
 use Rattle.listing.specs.Told.{printedVerdict}
 use Rattle.listing.proofs.Accepted.{accepted-printed}
@@ -34,16 +35,17 @@ module _ (program start recorded memory : List ℕ) where
       verdictListing header items groups cells trail ≡ verdictListing header′ items′ groups′ cells′ trail′
   same-listing p q r s t = rw (p, q, r, s, t)
 
-  module _ {before after : Lent} {r : Acceptance} {end : Listing} (handed : HandsOver acceptance before after r) where
+  module _ {cells : Table} {after : Lent} {r : Acceptance} {end : Listing}
+      (handed : HandsOver program start recorded (lent cells (zeros trailSize)) after r) where
     pub listed-refusal : {x : Refusal} → r ≡ Acceptance.the-variants.Refused x → end ≡ printedOf memory (refused x) →
         end ≡ listing program start recorded memory
-    listed-refusal found prints = prints ∙ prints-of (accept-refused acceptance handed found)
+    listed-refusal found prints = prints ∙ prints-of (accept-refused handed found)
 
     pub listed-verdict : {header : Header} {items groups : ℕ} → r ≡ Acceptance.the-variants.Accepted header items groups →
         end ≡ printedVerdict memory (verdictTold groups items (after .trail)) recorded header (after .trail) items (after .cells) →
         end ≡ listing program start recorded memory
     listed-verdict found prints =
-        let known = accept-found acceptance handed found in
+        let known = accept-found handed found in
         prints
         ∙ same-listing (known .header-is) (known .items-is) (known .groups-is) (known .cells-is) (known .trail-is)
         ∙ accepted-printed program start recorded (known .a) (known .is) memory

@@ -7,7 +7,6 @@ use model::CELLS;
 use model::ITEMS;
 use model::Listed;
 use model::RANKS;
-use model::REGISTERS;
 use model::TOLD;
 use replay::Acceptance;
 use replay::replay;
@@ -21,19 +20,9 @@ pub fn listing(program: &[u8], start: &[u8], recorded: &[u8], text: &mut [u8]) -
     ensures { λ r. ⌜ printing r (now (text .exit)) ≡
         listings.listing (now (program .entry)) (now (start .entry)) (now (recorded .entry)) (now (text .entry)) ⌝ }
 {
-    let mut control = [0; RANKS];
-    let mut registers = [[0; REGISTERS]; RANKS];
     let mut cells = [[0; CELLS]; RANKS];
     let mut trail = [[0; TOLD]; ITEMS];
-    match replay(
-        program,
-        start,
-        recorded,
-        &mut control,
-        &mut registers,
-        &mut cells,
-        &mut trail,
-    ) {
+    match replay(program, start, recorded, &mut cells, &mut trail) {
         Acceptance::Refused(refusal) => print_refused(text, refusal),
         Acceptance::Accepted {
             header,

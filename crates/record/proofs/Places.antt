@@ -2,7 +2,7 @@
 -- found, one less from the next place. Hence the items stand from place 2 to the end, and whoever reads the item at the place where the one before it
 -- ended reads the record's items again.
 use Prim.Native.Nat.{ℕ, zero, suc, _-_, _<_}
-use mathlib.Core.Path.{_≡_, refl, sym, ap, subst, fun-ext, _∙_}
+use mathlib.Core.Path.{_≡_, refl, sym, subst, fun-ext, _∙_}
 use mathlib.Core.List.{List, _∷_}
 use native.Mathlib.Nat.{not-suc-le-zero}
 use native.Mathlib.Omega.{arith}
@@ -117,15 +117,14 @@ module _ (header : Header) (bytes : List ℕ) {read : Field} (p : read ≡ field
 
 -- The items that were read stand one after the other.
 times-from : (header : Header) (bytes : List ℕ) (n at : ℕ) {f : Found (List Item)} → times n (readItem header) bytes at ≡ ok f →
-    f .next ≡ length bytes → ItemsFrom header bytes at (f .value)
+    ItemsFrom header bytes at (f .value) (f .next)
 unfolding times
-times-from header bytes zero at h =
-    subst (λ (f : Found (List Item)). f .next ≡ length bytes → ItemsFrom header bytes at (f .value)) (ok-injective h) (λ p. ended p)
+times-from header bytes zero at h = subst (λ (f : Found (List Item)). ItemsFrom header bytes at (f .value) (f .next)) (ok-injective h) ended
 times-from header bytes (suc n) at h =
     let (a, ea, h₁) = bind-ok (readItem header bytes at) _ h in
     let (rest, er, h₂) = bind-ok (times n (readItem header) bytes (a .next)) _ h₁ in
-    subst (λ (f : Found (List Item)). f .next ≡ length bytes → ItemsFrom header bytes at (f .value)) (ok-injective h₂)
-    (λ p. then ea (times-from header bytes n (a .next) er p))
+    subst (λ (f : Found (List Item)). ItemsFrom header bytes at (f .value) (f .next)) (ok-injective h₂)
+    (then ea (times-from header bytes n (a .next) er))
 
 -- A record that was read is one, as the paper describes it.
 pub record-items : (header : Header) (bytes : List ℕ) {items : List Item} → readRecord header bytes ≡ ok items → Recorded header bytes items
@@ -139,7 +138,7 @@ record-items header bytes {items} h =
     record {
       count = rw (l, ← n) ew;
       limit = rw l (leb-true (f .value) maxItems t);
-      items-from = rw n at (times-from header bytes (f .value) (f .next) e refl);
+      items-from = rw n at (times-from header bytes (f .value) (f .next) e);
     }
 
 -- What the record reader's answer says of the definition.
@@ -151,18 +150,3 @@ readable {count} (refused r) h = let z : _≡_ {A = ℕ} 0 1 = cc in absurd (ome
 pub readable-items : (header : Header) (bytes : List ℕ) {count : ℕ} → RecordRead.the-variants.Readable count ≡ recordRead (readRecord header bytes) →
     (items : List Item) × (readRecord header bytes ≡ ok items) × (length items ≡ count)
 readable-items header bytes h = readable (readRecord header bytes) h
-
--- The replay's decoder: while items are left, reading at the place gives the first of them, and the others stand from the next place.
-pub record Decoded (header : Header) (bytes : List ℕ) (items : List Item) (answer : ItemRead) : Type 0 where
-  pub item : Item
-  pub rest : List Item
-  pub next : ℕ
-  pub items-are : items ≡ item ∷ rest
-  pub answer-is : answer ≡ ItemRead.the-variants.Read next item
-  pub rest-from : ItemsFrom header bytes next rest
-
-pub decoded : {header : Header} {bytes : List ℕ} {at : ℕ} {items : List Item} {answer : ItemRead} → ItemsFrom header bytes at items →
-    0 < length items → answer ≡ itemRead (readItem header bytes at) → Decoded header bytes items answer
-decoded (ended p) h q = absurd (not-suc-le-zero h)
-decoded (then {next = next} {item = item} {items = rest} e from) h q =
-    record { item = item; rest = rest; next = next; items-are = refl; answer-is = q ∙ ap itemRead e; rest-from = from }

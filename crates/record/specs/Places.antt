@@ -1,4 +1,4 @@
--- The items of a record and their places: one after the other behind the count, the last one ending where the bytes end.
+-- The items of a record and their places: one after the other behind the count, the last one ending where the record's bytes end.
 use Prim.Native.Nat.{ℕ, _≤_}
 use mathlib.Core.Path.{_≡_}
 use mathlib.Core.List.{List, [], _∷_}
@@ -19,17 +19,17 @@ use Rattle.record.specs.declared.reader.RecordRead.{RecordRead}
 abbrev pub firstItem : ℕ
 firstItem = 2
 
--- These items, read one after the other from a place to the end of the bytes.
-pub data ItemsFrom (header : Header) (bytes : List ℕ) : ℕ → List Item → Type 0 where
-  ended : {at : ℕ} → at ≡ length bytes → ItemsFrom header bytes at []
-  then : {at next : ℕ} {item : Item} {items : List Item} →
-      readItem header bytes at ≡ found item next → ItemsFrom header bytes next items → ItemsFrom header bytes at (item ∷ items)
+-- These items, read one after the other from a place to the place where the last one ends.
+pub data ItemsFrom (header : Header) (bytes : List ℕ) : (at : ℕ) → List Item → (end : ℕ) → Type 0 where
+  ended : {at : ℕ} → ItemsFrom header bytes at [] at
+  then : {at next end : ℕ} {item : Item} {items : List Item} →
+      readItem header bytes at ≡ found item next → ItemsFrom header bytes next items end → ItemsFrom header bytes at (item ∷ items) end
 
 -- A readable record: the item count within its limit, and so many items behind it, up to the end.
 pub record Recorded (header : Header) (bytes : List ℕ) (items : List Item) : Type 0 where
   pub count : word recordLength bytes 0 ≡ found (length items) firstItem
   pub limit : length items ≤ maxItems
-  pub items-from : ItemsFrom header bytes firstItem items
+  pub items-from : ItemsFrom header bytes firstItem items (length bytes)
 
 -- "a two-byte item count, 0..1,024"
 unfoldable pub itemCount : Reader ℕ

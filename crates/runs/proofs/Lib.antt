@@ -1,3 +1,3 @@
--- The items on arrays, turn by turn, and that they go as the definition's.
-pub mod Turns
+-- The items on arrays go as the definition's; and the code's turns are the items on arrays.
 pub mod Simulation
+pub mod Turns

@@ -1,2 +1,3 @@
--- The items of a record on arrays.
+-- The items of a record on arrays, and the promise of whoever takes them.
 pub mod Items
+pub mod Promise

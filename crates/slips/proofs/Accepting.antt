@@ -15,13 +15,15 @@ use Rattle.replay.specs.declared.Acceptance.{Acceptance}
 use Rattle.replay.specs.Handed as Handed
 use Rattle.replay.specs.Handed.{HandsOver}
 use Rattle.replay.proofs.Accepting.{accept-refused, accept-found}
+use Rattle.memory.specs.Tables.{Table, zeros}
+use Rattle.trails.specs.Trails.{trailSize}
 use Rattle.rank_counts.specs.Tallies.{ranksTold, tallied}
 use Rattle.slips.specs.Writing.{slipFrom}
 use Rattle.slips.proofs.Commands.{commands-tallied}
 use Rattle.slips.proofs.Writing.{slip-accepted}
 
-module _ (program start recorded : List ℕ) {before after : Handed.Lent} {r : Acceptance}
-    (handed : HandsOver (accept program start recorded) before after r) (slip : List ℕ) where
+module _ (program start recorded : List ℕ) {cells : Table} {after : Handed.Lent} {r : Acceptance}
+    (handed : HandsOver program start recorded (Handed.lent cells (zeros trailSize)) after r) (slip : List ℕ) where
   written : {m : Result Accepted} → accept program start recorded ≡ m →
       lend slip (Refusals._>>=_ m (λ a. ok (slipOf a))) ≡ writeSlip program start recorded slip
   unfolding writeSlipIn
@@ -30,14 +32,14 @@ module _ (program start recorded : List ℕ) {before after : Handed.Lent} {r : A
   pub written-refused : {x : Refusal} → r ≡ Acceptance.the-variants.Refused x →
       answering (Filled.Refused x) slip ≡ writeSlip program start recorded slip
   unfolding lend
-  written-refused found = written (accept-refused _ handed found)
+  written-refused found = written (accept-refused handed found)
 
   pub written-accepted : {header : Header} {items groups : ℕ} → r ≡ Acceptance.the-variants.Accepted header items groups →
       (counts : List ℕ) → counts ≡ tallied (ranksTold items (after .trail)) → {l : Lent} →
       l ≡ lend slip (ok (slipFrom (header .ranks) counts)) →
       l ≡ writeSlip program start recorded slip
   written-accepted found counts is wrote =
-      let known = accept-found _ handed found in
+      let known = accept-found handed found in
       let told =
       is
       ∙ ap₂ (λ n trail. tallied (ranksTold n trail)) (known .items-is) (known .trail-is)

@@ -16,7 +16,6 @@ use model::CELLS;
 use model::Filled;
 use model::ITEMS;
 use model::RANKS;
-use model::REGISTERS;
 use model::Refusal;
 use model::TOLD;
 use model::refusals::MEMORY_TOO_SHORT;
@@ -72,19 +71,9 @@ pub fn write_slip(program: &[u8], start: &[u8], recorded: &[u8], slip: &mut [u8]
     ensures { λ r. ⌜ answering r (now (slip .exit))
         ≡ writeSlip (now (program .entry)) (now (start .entry)) (now (recorded .entry)) (now (slip .entry)) ⌝ }
 {
-    let mut control = [0; RANKS];
-    let mut registers = [[0; REGISTERS]; RANKS];
     let mut cells = [[0; CELLS]; RANKS];
     let mut trail = [[0; TOLD]; ITEMS];
-    match replay(
-        program,
-        start,
-        recorded,
-        &mut control,
-        &mut registers,
-        &mut cells,
-        &mut trail,
-    ) {
+    match replay(program, start, recorded, &mut cells, &mut trail) {
         Acceptance::Refused(refusal) => Filled::Refused(refusal),
         Acceptance::Accepted {
             header,

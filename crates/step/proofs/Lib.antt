@@ -1,3 +1,3 @@
--- The code against the step on arrays (`Outcomes`), and the step on arrays against the definition's.
-pub mod Outcomes
+-- The step on arrays against the definition's, and the code against both (`Outcomes`).
 pub mod ItemSteps
+pub mod Outcomes

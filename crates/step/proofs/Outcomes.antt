@@ -2,9 +2,9 @@
 use Prim.Native.Nat.{ℕ, _≤_, _<_}
 use mathlib.Core.Path.{_≡_}
 use mathlib.Core.List.{List}
-use mathlib.Core.Bool.{true, Bool, false}
+use mathlib.Core.Bool.{Bool, true, false, not}
 use lib.ListN.{getD}
-use borrow.Author.Tests.{lt-ltb, le-ltb}
+use borrow.Author.Tests.{lt-ltb, le-ltb, not-true, not-false}
 use Rattle.model.specs.declared.Header.{Header}
 use Rattle.model.specs.declared.Item.{Item}
 use Rattle.model.specs.declared.Kind.the-variants.{Popa, Popb}
@@ -21,31 +21,38 @@ use Rattle.machine.proofs.Outcomes.{does-refused, wrong}
 use Rattle.commands.specs.Commands.{commandOn}
 use Rattle.pops.specs.Pops.{fetchOn, deliveryOn}
 use Rattle.step.specs.Steps.{itemOn, partOn}
+use Rattle.step.specs.Standing.{Steps}
+use Rattle.step.proofs.ItemSteps.{promised}
 
--- An item by its row and its part.
+-- An item by its row and its part, by what is answered of them.
 module _ (bytes starts : List ℕ) (h : Header) (i : Item) (p : Progress) (m : Memory) {allowed : Bool} (row : allowed ≡ rowAllows (p .row) i) where
-  pub row-refused : allowed ≡ false → Does (itemOn bytes starts h i p m) m m (Refused (record { number = barrierRow; place = p .at }))
+  abbrev Answers : (after : Memory) → Outcome → Type 0
+  Answers after outcome = Steps bytes starts h i p m after outcome
+
+  pub row-refused : not allowed ≡ true → Answers m (Refused (record { number = barrierRow; place = p .at }))
   unfolding itemOn
-  row-refused e = does-refused (rw (← row, e))
+  row-refused e = promised bytes starts h i p (does-refused (rw (← row, not-true allowed e)))
 
-  module _ (free : allowed ≡ true) where
-    pub item-fetched : {after : Memory} {outcome : Outcome} → sameKind (i .kind) Popa ≡ true →
-        Does (fetchOn i p m) m after outcome → Does (itemOn bytes starts h i p m) m after outcome
+  module _ (free : not allowed ≡ false) {fetches : Bool} (fetch-is : fetches ≡ sameKind (i .kind) Popa) where
+    pub item-fetched : {after : Memory} {outcome : Outcome} → fetches ≡ true → Does (fetchOn i p m) m after outcome → Answers after outcome
     unfolding itemOn partOn
-    item-fetched e d = rw (← row, free, e) d
+    item-fetched e d = promised bytes starts h i p (rw (← row, not-false allowed free, ← fetch-is, e) d)
 
-    pub item-delivered : {after : Memory} {outcome : Outcome} → sameKind (i .kind) Popa ≡ false → sameKind (i .kind) Popb ≡ true →
-        Does (deliveryOn i p m) m after outcome → Does (itemOn bytes starts h i p m) m after outcome
-    unfolding itemOn partOn
-    item-delivered e f d = rw (← row, free, e, f) d
-
-    module _ (e : sameKind (i .kind) Popa ≡ false) (f : sameKind (i .kind) Popb ≡ false) where
-      pub number-refused : maxTransitions ≤ i .transition → Does (itemOn bytes starts h i p m) m m (wrong (p .at))
+    module _ (other : fetches ≡ false) {delivers : Bool} (delivery-is : delivers ≡ sameKind (i .kind) Popb) where
+      pub item-delivered : {after : Memory} {outcome : Outcome} → delivers ≡ true → Does (deliveryOn i p m) m after outcome → Answers after outcome
       unfolding itemOn partOn
-      number-refused l = does-refused (rw (← row, free, e, f, le-ltb _ _ l))
+      item-delivered e d = promised bytes starts h i p (rw (← row, not-false allowed free, ← fetch-is, other, ← delivery-is, e) d)
 
-      pub item-command : {after : Memory} {outcome : Outcome} → i .transition < maxTransitions →
-          Does (commandOn bytes (getD starts (i .transition) 0) h i p m) m after outcome →
-          Does (itemOn bytes starts h i p m) m after outcome
-      unfolding itemOn partOn
-      item-command l d = rw (← row, free, e, f, lt-ltb _ _ l) d
+      module _ (command : delivers ≡ false) where
+        pub number-refused : maxTransitions ≤ i .transition → Answers m (wrong (p .at))
+        unfolding itemOn partOn
+        number-refused l =
+            promised bytes starts h i p
+            (does-refused (rw (← row, not-false allowed free, ← fetch-is, other, ← delivery-is, command, le-ltb _ _ l)))
+
+        pub item-command : {start : ℕ} {after : Memory} {outcome : Outcome} → i .transition < maxTransitions → start ≡ getD starts (i .transition) 0 →
+            Does (commandOn bytes start h i p m) m after outcome → Answers after outcome
+        unfolding itemOn partOn
+        item-command l s d =
+            promised bytes starts h i p
+            (rw (← row, not-false allowed free, ← fetch-is, other, ← delivery-is, command, lt-ltb _ _ l, ← s) d)

@@ -2,14 +2,12 @@
 use commands::take_command;
 use entries::Pool;
 use items::kinds::same_kind;
-use items::rows::Progress;
 use items::rows::row_allows;
 use links::Ends;
 use machine::Outcome;
+use machine::Turn;
 use model::Cells;
 use model::Control;
-use model::Header;
-use model::Item;
 use model::Kind;
 use model::Refusal;
 use model::Registers;
@@ -34,20 +32,20 @@ fn place_of(start: u16) -> usize
 pub fn take_item(
     program: &[u8],
     starts: &Starts,
-    header: Header,
-    item: Item,
-    progress: Progress,
+    turn: Turn,
     control: &mut Control,
     registers: &mut Registers,
     cells: &mut Cells,
     pool: &mut Pool,
     ends: &mut Ends,
 ) -> Outcome
-    ensures { λ r. ⌜ Steps (now (program .entry)) (now (starts .entry)) header item progress
+    ensures { λ r. ⌜ Steps (now (program .entry)) (now (starts .entry)) (turn .header) (turn .item) (turn .progress)
         (memory (now (control .entry)) (now (registers .entry)) (now (cells .entry)) (now (pool .entry)) (now (ends .entry)))
         (memory (now (control .exit)) (now (registers .exit)) (now (cells .exit)) (now (pool .exit)) (now (ends .exit)))
         r ⌝ }
 {
+    let item = turn.item;
+    let progress = turn.progress;
     let at = progress.at;
     let kind = item.kind;
     let transition = item.transition as usize;
@@ -70,16 +68,5 @@ pub fn take_item(
         });
     }
     let start = place_of(starts[transition]);
-    take_command(
-        program,
-        start,
-        header,
-        item,
-        progress,
-        control,
-        registers,
-        cells,
-        pool,
-        ends,
-    )
+    take_command(program, start, turn, control, registers, cells, pool, ends)
 }

@@ -5,19 +5,10 @@ use Rattle.slips.proofs.write_slip.Statement.{statement}
 use Rattle.slips.proofs.write_slip.Tie as tie
 
 returns : tie.Need-returns
-returns c =
-    let atFound = c .before in
-    let atReplay = atFound .before .before in
-    written-refused _ _ _ (atReplay .replay .ensures) _ (atFound .refusal .given .1)
+returns c = search written-refused
 
 returns-2 : tie.Need-returns-2
-returns-2 c =
-    let atWritten = c .before .before in
-    let atCounts = atWritten .before .before .before in
-    let atFound = atCounts .before .before .before in
-    let atReplay = atFound .before .before in
-    written-accepted _ _ _ (atReplay .replay .ensures) _ (atFound .header .given .1) _ (atCounts .command-counts .ensures)
-    (atWritten .write-counts .ensures)
+returns-2 c = search written-accepted
 
 pub write-slip-spec : {M : Type 1} → statement M
 write-slip-spec =

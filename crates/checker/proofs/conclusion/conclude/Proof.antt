@@ -5,16 +5,10 @@ use Rattle.checker.proofs.conclusion.conclude.Statement.{statement}
 use Rattle.checker.proofs.conclusion.conclude.Tie as tie
 
 returns : tie.Need-returns
-returns c =
-    let atFound = c .before .before in
-    let atReplay = atFound .before .before in
-    ends-refused _ _ _ _ (atReplay .replay .ensures) (atFound .refusal .given .1) (c .refused .ensures)
+returns c = search ends-refused
 
 returns-2 : tie.Need-returns-2
-returns-2 c =
-    let atFound = c .before .before .before in
-    let atReplay = atFound .before .before in
-    ends-accepted _ _ _ _ (atReplay .replay .ensures) (atFound .header .given .1) (c .accepted .ensures)
+returns-2 c = search ends-accepted
 
 pub conclude-spec : {M : Type 1} → statement M
 conclude-spec =
