@@ -5,11 +5,12 @@ use model::Header;
 use model::Item;
 use model::Refusal;
 
-// An item in its turn: the program's numbers, the item, and how far the replay is before it.
+// An item in its turn: how far the replay is before it, the item, and the program's numbers. Progress stands first, so that it is copied in whole
+// words.
 pub struct Turn {
-    pub header: Header,
-    pub item: Item,
     pub progress: Progress,
+    pub item: Item,
+    pub header: Header,
 }
 
 // An item taken: how far the replay is then, the item's group and the number of its access; or the refusal.
