@@ -4,6 +4,8 @@ use super::parts::{
     assign, assume, at, bar, command, from_queue, giving, load, on_queue, popa, popb, read, store,
     with_operand, write,
 };
+use super::row::{cells_with, Row};
+use crate::corpus::Expected;
 use crate::expression::Expression;
 use crate::program::{Program, Transition};
 use crate::record::Item;
@@ -194,4 +196,29 @@ fn parts(word: &str) -> (&str, Vec<usize>) {
         letter,
         numbers.filter_map(|number| number.parse().ok()).collect(),
     )
+}
+
+/// The rows of a family that a text has, one a line: a name, the words of the record, and its ring,
+/// or its order in brackets, with colons between. All cells are 0. Empty lines, and those that begin
+/// with `#`, are skipped.
+pub fn rows_of(family: &str, text: &str) -> Vec<Row> {
+    let is_case = |line: &&str| !line.is_empty() && !line.starts_with('#');
+    let lines = text.lines().filter(is_case);
+    lines.map(|line| row_of(family, line)).collect()
+}
+
+/// The row of a line.
+fn row_of(family: &str, line: &str) -> Row {
+    let mut fields = line.split(':');
+    let [name, words, answer] = [0; 3].map(|_: u8| fields.next().expect("a case has three fields"));
+    let numbers = answer.split(|character: char| !character.is_ascii_digit());
+    let groups = numbers.filter_map(|number| number.parse().ok()).collect();
+    let answer = if answer.contains('(') {
+        Expected::Order(groups)
+    } else {
+        Expected::Ring(groups)
+    };
+    let Script { program, items, .. } = Script::of(words);
+    let last = cells_with(&program, &[]);
+    Row::accepted(family, name, (&program, &items), answer, last)
 }

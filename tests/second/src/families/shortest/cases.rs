@@ -1,13 +1,11 @@
-//! Cases one by one: a name, the words of the record, and the ring, or the order in brackets. All
-//! cells are 0. An arrow that leads back to a transfer comes from an access at the cell that it is
-//! fetched from or delivered to, before the fetch or the delivery.
+//! Cases one by one. An arrow that leads back to a transfer comes from an access at the cell that it
+//! is fetched from or delivered to, before the fetch or the delivery.
 
-use super::accepted;
-use crate::corpus::Expected;
+use super::FAMILY;
 use crate::families::row::Row;
-use crate::families::script::Script;
+use crate::families::script::rows_of;
 
-/// The cases; a line that begins with `#` says what follows.
+/// The cases as `rows_of` takes them; a line that begins with `#` says what follows.
 const CASES: &str = "
 # Knots of one rank, one after the other. What is behind a knot leads to none before it, so each closed
 # walk stays in its knot, and the ring is the first of the shortest.
@@ -145,21 +143,5 @@ order-of-none:: ()
 
 /// All rows.
 pub fn rows() -> Vec<Row> {
-    let lines = CASES.lines();
-    let is_case = |line: &&str| !line.is_empty() && !line.starts_with('#');
-    lines.filter(is_case).map(row).collect()
-}
-
-/// The row of a line.
-fn row(line: &str) -> Row {
-    let mut fields = line.split(':');
-    let [name, words, answer] = [0; 3].map(|_: u8| fields.next().expect("a case has three fields"));
-    let numbers = answer.split(|character: char| !character.is_ascii_digit());
-    let groups = numbers.filter_map(|number| number.parse().ok()).collect();
-    let answer = if answer.contains('(') {
-        Expected::Order(groups)
-    } else {
-        Expected::Ring(groups)
-    };
-    accepted(name, &Script::of(words), answer, &[])
+    rows_of(FAMILY, CASES)
 }

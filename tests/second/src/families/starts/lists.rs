@@ -72,10 +72,9 @@ fn list(entries: usize, values: &[(usize, u16)]) -> Vec<u16> {
 }
 
 /// One start of a machine, both ways: so many ranks and cells, and the readings of each rank.
-type Sample<'a> = (&'a str, (usize, usize), &'a [Readings<'a>]);
+pub type Sample<'a> = (&'a str, (usize, usize), &'a [Readings<'a>]);
 
-/// Starts that are written and read: the list and the memory as long as needed, longer, an entry or
-/// a byte short, and empty.
+/// Starts that are written and read.
 fn both_ways() -> Vec<Result<Case, String>> {
     let samples: [Sample; 12] = [
         ("1-by-1", (1, 1), &[&[(0, 7)]]),
@@ -103,74 +102,77 @@ fn both_ways() -> Vec<Result<Case, String>> {
             &[&[(2, 300)], &[], &[(1, 65_534), (2, 1)]],
         ),
     ];
-    let mut cases = Vec::new();
-    for (what, (ranks, cells), readings) in samples {
-        let program = bare(ranks as u8, cells as u8);
-        let bytes = start(readings);
-        let of_rank = |(rank, readings): (usize, &Readings)| {
-            let at = move |&(cell, value): &(usize, u16)| (cells * rank + cell, value);
-            readings.iter().map(at).collect::<Vec<_>>()
-        };
-        let values: Vec<(usize, u16)> = readings.iter().enumerate().flat_map(of_rank).collect();
-        let entries = ranks * cells;
-        let list = list(entries, &values);
-        let beyond = [&list[..], &[1, 65_535, 0]].concat();
-        let (short_list, short_memory) = (Err((15, entries)), Err((15, bytes.len())));
-        let named = |how: &str| format!("{what}-{how}");
-        let exact = bytes.len();
-        cases.extend([
-            write(&named("exact"), &program, &list, exact, Ok(bytes.clone())),
-            write(
-                &named("longer"),
-                &program,
-                &beyond,
-                exact + 3,
-                Ok(bytes.clone()),
-            ),
-            write(
-                &named("memory-short"),
-                &program,
-                &list,
-                exact - 1,
-                short_memory.clone(),
-            ),
-            write(&named("no-memory"), &program, &beyond, 0, short_memory),
-            write(
-                &named("list-short"),
-                &program,
-                &list[..entries - 1],
-                exact,
-                short_list.clone(),
-            ),
-            write(
-                &named("both-short"),
-                &program,
-                &list[..entries - 1],
-                7,
-                short_list.clone(),
-            ),
-            write(&named("nothing"), &program, &[], 0, short_list),
-        ]);
-        let short_list = Err((15, entries));
-        cases.extend([
-            read(&named("exact"), &program, &bytes, entries, Ok(list.clone())),
-            read(
-                &named("longer"),
-                &program,
-                &bytes,
-                entries + 2,
-                Ok(list.clone()),
-            ),
-            read(
-                &named("list-short"),
-                &program,
-                &bytes,
-                entries - 1,
-                short_list.clone(),
-            ),
-            read(&named("no-list"), &program, &bytes, 0, short_list),
-        ]);
-    }
+    samples.into_iter().flat_map(both_ways_of).collect()
+}
+
+/// A start written and read: the list and the memory as long as needed, longer, an entry or a byte
+/// short, and empty.
+pub fn both_ways_of((what, (ranks, cells), readings): Sample) -> Vec<Result<Case, String>> {
+    let program = bare(ranks as u8, cells as u8);
+    let bytes = start(readings);
+    let of_rank = |(rank, readings): (usize, &Readings)| {
+        let at = move |&(cell, value): &(usize, u16)| (cells * rank + cell, value);
+        readings.iter().map(at).collect::<Vec<_>>()
+    };
+    let values: Vec<(usize, u16)> = readings.iter().enumerate().flat_map(of_rank).collect();
+    let entries = ranks * cells;
+    let list = list(entries, &values);
+    let beyond = [&list[..], &[1, 65_535, 0]].concat();
+    let (short_list, short_memory) = (Err((15, entries)), Err((15, bytes.len())));
+    let named = |how: &str| format!("{what}-{how}");
+    let exact = bytes.len();
+    let mut cases = vec![
+        write(&named("exact"), &program, &list, exact, Ok(bytes.clone())),
+        write(
+            &named("longer"),
+            &program,
+            &beyond,
+            exact + 3,
+            Ok(bytes.clone()),
+        ),
+        write(
+            &named("memory-short"),
+            &program,
+            &list,
+            exact - 1,
+            short_memory.clone(),
+        ),
+        write(&named("no-memory"), &program, &beyond, 0, short_memory),
+        write(
+            &named("list-short"),
+            &program,
+            &list[..entries - 1],
+            exact,
+            short_list.clone(),
+        ),
+        write(
+            &named("both-short"),
+            &program,
+            &list[..entries - 1],
+            7,
+            short_list.clone(),
+        ),
+        write(&named("nothing"), &program, &[], 0, short_list),
+    ];
+    let short_list = Err((15, entries));
+    cases.extend([
+        read(&named("exact"), &program, &bytes, entries, Ok(list.clone())),
+        read(
+            &named("longer"),
+            &program,
+            &bytes,
+            entries + 2,
+            Ok(list.clone()),
+        ),
+        read(
+            &named("list-short"),
+            &program,
+            &bytes,
+            entries - 1,
+            short_list.clone(),
+        ),
+        read(&named("no-list"), &program, &bytes, 0, short_list),
+    ]);
     cases
 }
 

@@ -3,10 +3,10 @@
 //! runs that the exhaustive judge confirms.
 
 mod beside;
-mod build;
+pub(super) mod build;
 mod contents;
 mod fields;
-mod lists;
+pub(super) mod lists;
 mod loaded;
 mod runs;
 

@@ -1,7 +1,7 @@
 //! Cases of document 02's #107, more than 128 transitions: numbers, places, orders, rings and cells
 //! worked out by hand.
 
-mod build;
+pub(super) mod build;
 mod counts;
 mod fields;
 mod limits;
