@@ -77,7 +77,7 @@ fn the_corpus_is_small_and_its_names_differ() {
         .iter()
         .map(|file| fs::metadata(file).map_or(0, |data| data.len()))
         .sum();
-    assert!(size < 2_700_000, "{size} bytes");
+    assert!(size < 2_800_000, "{size} bytes");
     let cases = cases();
     let names: BTreeSet<&str> = cases.iter().map(Case::name).collect();
     assert_eq!(names.len(), cases.len());
@@ -136,10 +136,10 @@ fn rings_are_other_than_document_01s_where_it_is_said() {
     let names: BTreeSet<&str> = checks.filter(changed).map(|case| &case.name[..]).collect();
     let (new, old): (BTreeSet<&str>, BTreeSet<&str>) = names
         .into_iter()
-        .partition(|name| name.starts_with("shortest-"));
+        .partition(|name| name.starts_with("shortest-") || name.starts_with("points-"));
     assert_eq!(old, BTreeSet::from(OTHER_RINGS));
     println!(
-        "corpus: {} rings of #111's cases are other than document 01's",
+        "corpus: {} rings of the cases since #111 are other than document 01's",
         new.len()
     );
     assert!(new.len() >= 90);

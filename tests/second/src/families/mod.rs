@@ -6,6 +6,7 @@ pub mod extremes;
 pub mod former_ring;
 pub mod neighbours;
 pub mod parts;
+pub mod points;
 pub mod ranks;
 pub mod replay_table;
 pub mod row;
@@ -59,6 +60,7 @@ pub fn files(seed: u64) -> Result<Vec<Named>, String> {
         sums::file(seed)?,
         starts::file(seed)?,
         shortest::file(seed)?,
+        points::file()?,
     ])
 }
 
