@@ -34,14 +34,14 @@ COUNT ?= 20000
 
 # What `test` runs after rt's own gate, in two lanes beside each other: what asks the prover, and what does not.
 PROVER_PARTS := definitions edits
-OTHER_PARTS := second harness first recorder-test list_run-test
+OTHER_PARTS := second harness first header-test recorder-test list_run-test
 
 # How many crates of one level, or edits, rt proves at a time. It waits for the last of them, so more than the machine has processors leave less of it
 # idle.
 export RT_JOBS ?= 8
 
 .PHONY: test sample bench second harness definitions edits first programs library install recorder recorder-test recorder-thread header
-.PHONY: list_run list_run-test
+.PHONY: list_run list_run-test header-test
 
 # Every proof and must-fail edit from nothing, then the tests, which stand on what was proved. Each part's seconds are printed, and the gate's
 # last line is the last line.
@@ -148,6 +148,13 @@ $(RECORDER)/lent: tests/recorder/lent.c $(HEADER) $(LIBRARY)
 header:
 	$(CC) $(C_FLAGS) -pedantic -fsyntax-only -x c $(HEADER)
 	$(CXX) $(CXX_FLAGS) -pedantic -fsyntax-only -x c++ $(HEADER)
+
+# The header's numbers, lengths and functions, held to documents 01 and 02.
+header-test: header target/header/numbers
+	tests/header/run target/header/numbers $(HEADER)
+target/header/numbers: tests/header/numbers.c $(HEADER) $(LIBRARY)
+	@mkdir -p $(dir $@)
+	$(CC) $(C_FLAGS) $(ADDRESS) -Iinclude -o $@ $< $(LIBRARY)
 
 # The recorder's runs against the second program, with the sanitizer of addresses and, where there is one, that of threads.
 recorder-test: header programs $(RECORDER)/lent $(RECORDER)/address
