@@ -71,10 +71,11 @@ second:
 harness: programs
 	$(HARNESS) corpus $(VECTORS)
 
-# The corpus's shorter cases, computed by the definitions.
+# The corpus's shorter cases, computed by the definitions, and the header's numbers and lengths beside theirs.
 definitions: programs
 	rm -rf $(DEFINITIONS)
 	$(PROGRAMS)/definitions . $(DEFINITIONS) $(VECTORS)/*.txt
+	tests/header/theorems $(HEADER) $(DEFINITIONS)
 	cd $(DEFINITIONS) && rt check >check.log 2>&1 || { cat check.log; exit 1; }
 	@tail -n 1 $(DEFINITIONS)/check.log
 
