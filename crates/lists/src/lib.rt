@@ -2,8 +2,15 @@
 // no room for all of it.
 use model::CELLS;
 use model::Cells;
+use model::Filled;
 use model::RANKS;
+use model::Refusal;
+use model::refusals::MEMORY_TOO_SHORT;
 ghost use mathlib.Core.Path.{_≡_};
+ghost use Prim.Native.Nat.{min};
+ghost use lib.ListN.{take};
+ghost use Rattle.model.specs.Refusals.{ok};
+ghost use Rattle.model.specs.Lending.{lend, answering};
 ghost use Rattle.lists.specs.Written.{fits, cellsFit, numbersWritten, wordsWritten, cellsWritten, cellWordsWritten};
 
 // So many numbers are given, and a list with so many entries has room for them from a place on.
@@ -33,7 +40,32 @@ pub fn write_numbers(list: &mut [u16], at: usize, numbers: &[u16], count: usize)
     }
 }
 
-// The same into bytes. An odd last byte is never touched.
+// So many, but no more than are given.
+fn at_most(count: usize, given: usize) -> usize
+    ensures { λ r. ⌜ r ≡ min count given ⌝ }
+{
+    if count < given {
+        return count;
+    }
+    given
+}
+
+// The first `count` numbers, or all where they are fewer, to the front of a list, and how many they are; or 15 with the entries that they need.
+pub fn fill_list(list: &mut [u16], numbers: &[u16], count: usize) -> Filled
+    ensures { λ r. ⌜ answering r (now (list .exit)) ≡ lend (now (list .entry)) (ok (take count (now (numbers .entry)))) ⌝ }
+{
+    let needed = at_most(count, numbers.len());
+    if list.len() < needed {
+        return Filled::Refused(Refusal {
+            number: MEMORY_TOO_SHORT,
+            place: needed,
+        });
+    }
+    write_numbers(list, 0, numbers, needed);
+    Filled::Entries(needed)
+}
+
+// The same as `write_numbers` into bytes. An odd last byte is never touched.
 pub fn write_words(bytes: &mut [u8], at: usize, numbers: &[u16], count: usize)
     ensures { λ r. ⌜ now (bytes .exit) ≡ wordsWritten (now (bytes .entry)) at (now (numbers .entry)) count ⌝ }
 {

@@ -4,7 +4,7 @@ use mathlib.Core.Path.{_≡_, refl, sym, ap, ap₂, fun-ext, _∙_}
 use mathlib.Core.List.{List, []}
 use native.Mathlib.Omega.{arith}
 use lib.Dec.{ltb}
-use lib.ListN.{length, take, replicate, length-take}
+use lib.ListN.{length, take, replicate}
 use lib.Seq.{take-at}
 use borrow.Author.Tests.{ltb-true, ltb-false, lt-ltb, le-ltb, eq-eqb, ne-eqb}
 use Rattle.model.specs.declared.Filled.the-variants as Filled
@@ -100,9 +100,6 @@ module _ (ranks : ℕ) (slip : List ℕ) where
               let values = ap (λ (g : Found (List ℕ)). take ranks (g .value)) is in
               ap₂ found (sym (take-at (f .value) above ranks (long f refl)) ∙ values) (ap (λ (g : Found (List ℕ)). g .next) is)
           go (refused s) e long = absurd (refused≢ok e)
-
-      pub read-enough : {n : ℕ} → k .ended ≡ Ended.the-variants.At n → ranks ≤ length (k .values)
-      read-enough is = omega (arith, slip-counts .holds 0 _ (counts-found is), length-take ranks (k .values))
 
       -- What the definition answers.
       module _ (counts : List ℕ) where

@@ -5,7 +5,7 @@ mod reader;
 use crate::lengths::map_length;
 use crate::lengths::slip_length;
 use crate::reader::read_counts;
-use lists::write_numbers;
+use lists::fill_list;
 use lists::write_words;
 use marked::reader::Ended;
 use marking::map_of;
@@ -25,7 +25,7 @@ use replay::Acceptance;
 use replay::replay;
 ghost use mathlib.Core.Path.{_≡_};
 ghost use Prim.Native.Nat.{_≤_};
-ghost use lib.ListN.{length, take};
+ghost use lib.ListN.{length};
 ghost use Rattle.model.specs.Checks.{fill};
 ghost use Rattle.model.specs.Refusals.{ok};
 ghost use Rattle.model.specs.Lending.{lend, answering};
@@ -86,21 +86,6 @@ pub fn write_slip(program: &[u8], start: &[u8], recorded: &[u8], slip: &mut [u8]
     }
 }
 
-// The first `needed` values, where the list has room for them.
-fn fill_counts(counts: &mut [u16], values: &[u16], needed: usize) -> Filled
-    requires { ⌜ needed ≤ length (now values) ⌝ }
-    ensures { λ r. ⌜ answering r (now (counts .exit)) ≡ lend (now (counts .entry)) (ok (take needed (now (values .entry)))) ⌝ }
-{
-    if counts.len() < needed {
-        return Filled::Refused(Refusal {
-            number: MEMORY_TOO_SHORT,
-            place: needed,
-        });
-    }
-    write_numbers(counts, 0, values, needed);
-    Filled::Entries(needed)
-}
-
 // Reads a slip for N ranks: each rank's count fills its entry, 0 for a rank without a bit. "N outside 1..8 .. is 16 at byte 0"; document 02, #105:
 // "The reader takes N 1..16." A slip that is not right is refused before a list that is too short, and nothing is written then.
 pub fn read_slip(ranks: u16, slip: &[u8], counts: &mut [u16]) -> Filled
@@ -124,7 +109,7 @@ pub fn read_slip(ranks: u16, slip: &[u8], counts: &mut [u16]) -> Filled
                     place: end,
                 });
             }
-            fill_counts(counts, &values, ranks as usize)
+            fill_list(counts, &values, ranks as usize)
         }
     }
 }

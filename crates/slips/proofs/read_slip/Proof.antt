@@ -5,7 +5,7 @@ use borrow.Author.Needs.{needs}
 use borrow.Author.Tests.{ltb-true, ltb-false}
 use Rattle.model.specs.Limits.{maxRanks}
 use Rattle.model.proofs.Laws.{Within}
-use Rattle.slips.proofs.Reading.{ranks-refused, read-refused, read-left, read-enough, read-filled}
+use Rattle.slips.proofs.Reading.{ranks-refused, read-refused, read-left, read-filled}
 use Rattle.slips.proofs.read_slip.Statement.{statement}
 use Rattle.slips.proofs.read_slip.Tie as tie
 
@@ -29,12 +29,6 @@ returns-2 c =
     let atRead = atFound .before .before .before in
     read-left _ _ (ranks-inside (atRead .before)) (atRead .read-counts .ensures) _ (atFound .ended2 .given .1) (c .if3 .taken)
 
-fill-counts-requires : tie.Need-fill-counts-requires
-fill-counts-requires c κs =
-    let atFound = c .before .before .before .before in
-    let atRead = atFound .before .before .before in
-    read-enough _ _ (ranks-inside (atRead .before)) (atRead .read-counts .ensures) (atFound .ended2 .given .1)
-
 returns-3 : tie.Need-returns-3
 returns-3 c =
     let atFound = c .before in
@@ -48,7 +42,7 @@ returns-4 c =
     let atFound = atEnd .before .before in
     let atRead = atFound .before .before .before in
     read-filled _ _ (ranks-inside (atRead .before)) (atRead .read-counts .ensures) _ (atFound .ended2 .given .1) (omega (arith, atEnd .if3 .left))
-    (atFilled .fill-counts .ensures)
+    (atFilled .fill-list .ensures)
 
 pub read-slip-spec : {M : Type 1} → statement M
 read-slip-spec =
@@ -60,7 +54,7 @@ read-slip-spec =
     (λ c. search needs)
     returns-2
     (λ c. search needs)
-    fill-counts-requires
+    (λ c κs. search needs)
     returns-3
     (λ c. search needs)
     returns-4)
