@@ -1,5 +1,5 @@
 -- A line of a word and numbers, number by number.
-use Prim.Native.Nat.{ℕ, _+_, _-_, _*_, _^_, _≤_, _<_}
+use Prim.Native.Nat.{ℕ, _+_, _-_, _*_, _≤_, _<_, min}
 use mathlib.Core.Path.{_≡_, refl, sym, ap, _∙_}
 use mathlib.Core.List.{List, [], _∷_, _++_, map, append-assoc, append-nil}
 use native.Mathlib.Numerals.{add-one}
@@ -8,7 +8,7 @@ use lib.ListN.{length, take, drop, getD, length-append, take-append-drop}
 use lib.Seq.{take-suc, take-all}
 use Rattle.model.specs.Listings.{decimal, line, space, lineFeed}
 use Rattle.texts.specs.Texts.{Wrote}
-use Rattle.model.proofs.Listings.{decimal-few}
+use Rattle.lines.specs.Lines.{largest, LengthTold}
 use Rattle.texts.proofs.Texts.{wrote-length, Grown, grown-first, grown-here, grown-since, grown-more, grown-wrote}
 
 -- Numbers with a space before each.
@@ -41,7 +41,7 @@ pub spaced-more : (numbers : List ℕ) (next : ℕ) → next < length numbers �
 spaced-more numbers next h =
     rw (add-one, take-suc numbers next 0 h, spaced-append, spaced-one)
 
--- The line in lengths: with its word and its line feed, and the first numbers, which are not large.
+-- The line in lengths: with its word and its line feed, and the first numbers.
 pub line-length : (word numbers : List ℕ) → length (line word (map decimal numbers)) ≡ length word + 1 + length (spaced numbers)
 line-length word numbers =
     ap length (line-spaced word numbers)
@@ -61,29 +61,33 @@ some-spaced numbers next =
     sym (spaced-append (take next numbers) (drop next numbers)) ∙ ap spaced (take-append-drop next numbers) in
     omega (arith, simp length-append at (ap length e))
 
+-- What is told is the length, where there are few numbers.
+pub told-exactly : {word numbers : List ℕ} {r : ℕ} → LengthTold word numbers r → length word + 21 * length numbers < largest →
+    r ≡ length (line word (map decimal numbers))
+told-exactly told few = omega (arith, told .is, told .short)
+
+-- The word, the line feed and so many numbers are counted.
 pub record Counting (word numbers : List ℕ) (count next : ℕ) : Type 0 where
   pub within : next ≤ length numbers
-  pub counted : count ≡ length word + 1 + length (spaced (take next numbers))
+  pub counted : count ≡ min (length word + 1 + length (spaced (take next numbers))) largest
   pub few : length (spaced (take next numbers)) ≤ 21 * next
 
 module _ (word numbers : List ℕ) where
-  pub counting-none : Counting word numbers (length word + 1) 0
+  pub counting-none : length word < largest → Counting word numbers (length word + 1) 0
   unfolding spaced
-  counting-none = record { within = omega arith; counted = omega arith; few = omega arith }
+  counting-none h = record { within = omega arith; counted = omega arith; few = omega arith }
 
-  pub counting-more : {count next n : ℕ} → Counting word numbers count next → next < length numbers → n ≡ length (decimal (getD numbers next 0)) →
-      getD numbers next 0 < 2 ^ 64 → Counting word numbers (count + (1 + n)) (next + 1)
-  counting-more {count} {next} so-far more e small =
-      record {
-        within = omega arith;
-        counted = omega (arith, more-spaced numbers next more, so-far .counted);
-        few = omega (arith, more-spaced numbers next more, so-far .few, decimal-few (getD numbers next 0) small);
-      }
+  pub counting-more : {count next n more : ℕ} → Counting word numbers count next → next < length numbers → n ≡ length (decimal (getD numbers next 0)) →
+      n ≤ 20 → more ≡ min (count + (1 + n)) largest → Counting word numbers more (next + 1)
+  counting-more {next = next} so-far inside e few sum =
+      let one = more-spaced numbers next inside in
+      record { within = omega arith; counted = omega (arith, one, so-far .counted); few = omega (arith, one, so-far .few) }
 
-  pub counting-all : {count next : ℕ} → Counting word numbers count next → length numbers ≤ next → count ≡ length (line word (map decimal numbers))
+  pub counting-all : {count next : ℕ} → Counting word numbers count next → length numbers ≤ next → LengthTold word numbers count
   counting-all {count} {next} so-far h =
-      let e : take next numbers ≡ numbers = take-all next numbers h in
-      so-far .counted ∙ ap (λ l. length word + 1 + length (spaced l)) e ∙ sym (line-length word numbers)
+      let e = ap (λ l. length (spaced l)) (take-all next numbers h) in
+      let size = line-length word numbers in
+      record { is = omega (arith, e, size, so-far .counted); short = omega (arith, e, size, so-far .few, so-far .within) }
 
 -- A text with the first numbers of a line behind its word, which was there already.
 pub record Lining (found word numbers text : List ℕ) (at next : ℕ) : Type 0 where

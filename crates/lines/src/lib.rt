@@ -1,12 +1,13 @@
-// The lines of a listing, each written into the rest of lent bytes. A writer answers how many bytes it wrote: its whole line, or none where that does
-// not fit, and then the bytes are untouched. The length of a line can be asked for before it is written.
-mod fields;
+// Lines of a word and numbers, and the lines of a listing, each written into the rest of lent bytes. A writer answers how many bytes it wrote: its whole
+// line, or none where that does not fit, and then the bytes are untouched. The length of a line can be asked for before it is written.
+mod kinds;
+pub mod numbered;
 
-use crate::fields::kind_length;
-use crate::fields::line_length;
-use crate::fields::write_kind_line;
-use crate::fields::write_line;
-use crate::fields::write_number;
+use crate::kinds::kind_length;
+use crate::kinds::write_kind_line;
+use crate::numbered::line_length;
+use crate::numbered::write_line;
+use crate::numbered::write_number;
 use model::Answer;
 use model::Kind;
 use texts::decimals::decimal_length;

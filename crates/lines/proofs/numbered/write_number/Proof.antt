@@ -1,10 +1,10 @@
--- `lines::fields::write_number` meets its contract: a space, and the number behind it.
+-- `lines::numbered::write_number` meets its contract: a space, and the number behind it.
 use mathlib.Core.Path.{refl}
 use native.Mathlib.Omega.{arith}
 use borrow.Author.Needs.{needs}
 use Rattle.texts.proofs.Texts.{wrote-none, wrote-inside, grown-first, grown-more, grown-wrote, grown-inside}
-use Rattle.lines.proofs.fields.write_number.Statement.{statement}
-use Rattle.lines.proofs.fields.write_number.Tie as tie
+use Rattle.lines.proofs.numbered.write_number.Statement.{statement}
+use Rattle.lines.proofs.numbered.write_number.Tie as tie
 
 returns : tie.Need-returns
 returns c = wrote-none _ _ (omega arith)

@@ -1,12 +1,12 @@
--- `lines::fields::line_length` meets its contract. The invariant: the word, the line feed and so many numbers are counted.
+-- `lines::numbered::line_length` meets its contract. The invariant: the word, the line feed and so many numbers are counted.
 use Prim.Native.Nat.{_-_, _≤_}
 use native.Mathlib.Omega.{arith}
 use lib.ListN.{length, getD}
 use borrow.Author.Needs.{needs}
 use Rattle.model.proofs.Listings.{decimal-few}
 use Rattle.lines.proofs.Spaced.{Counting, counting-none, counting-more, counting-all}
-use Rattle.lines.proofs.fields.line_length.Statement.{statement}
-use Rattle.lines.proofs.fields.line_length.Tie as tie
+use Rattle.lines.proofs.numbered.line_length.Statement.{statement}
+use Rattle.lines.proofs.numbered.line_length.Tie as tie
 
 abbrev Inv-loop : tie.InvT-loop
 Inv-loop word numbers count₀ next₀ count next = Counting word numbers count next
@@ -15,7 +15,7 @@ abbrev μ-loop : tie.MeasureT-loop
 μ-loop word numbers count₀ next₀ count next = length numbers - next
 
 loop-holds : tie.Need-loop-holds Inv-loop μ-loop
-loop-holds c = counting-none _ _
+loop-holds c = counting-none _ _ (omega arith)
 
 -- The next number's digits are few.
 next-few : (c : tie.After-decimal-length Inv-loop μ-loop) → c .decimal-length .result ≤ 20
@@ -25,22 +25,11 @@ next-few c =
     let number = getD (atLoop .before .before .before .args .numbers .now) next 0 in
     omega (arith, c .decimal-length .ensures, decimal-few number (omega (arith, c .before .shared-slice-known3 .given next)))
 
-add-count-2 : tie.Need-add-count-2 Inv-loop μ-loop
-add-count-2 c = omega (arith, next-few c)
-
-add-count-3 : tie.Need-add-count-3 Inv-loop μ-loop
-add-count-3 c =
-    let so-far = c .before .before .before .loop .inv in
-    omega (arith, next-few c, so-far .counted, so-far .few)
-
 loop-again : tie.Need-loop-again Inv-loop μ-loop
-loop-again c =
-    let atTest = c .before .before in
-    counting-more _ _ (atTest .before .loop .inv) (atTest .loop-test .taken) (c .decimal-length .ensures)
-    (omega (arith, c .before .shared-slice-known3 .given (atTest .before .loop .next)))
+loop-again c = search (counting-more, next-few (c .before))
 
 returns : tie.Need-returns Inv-loop μ-loop
-returns c = counting-all _ _ (c .before .loop .inv) (c .loop-test .left)
+returns c = search counting-all
 
 pub line-length-spec : {M : Type 1} → statement M
 line-length-spec =
@@ -53,8 +42,8 @@ line-length-spec =
     (λ c. search needs)
     (λ c. search needs)
     (λ c κs. search needs)
-    add-count-2
-    add-count-3
+    (λ c. omega (arith, next-few c))
+    (λ c κs. search needs)
     (λ c. search needs)
     (λ c. search needs)
     loop-again

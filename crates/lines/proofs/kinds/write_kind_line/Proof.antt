@@ -1,7 +1,7 @@
--- `lines::fields::write_kind_line` meets its contract, kind by kind: the word that is copied is the definition's.
+-- `lines::kinds::write_kind_line` meets its contract, kind by kind: the word that is copied is the definition's.
 use borrow.Author.Needs.{needs}
-use Rattle.lines.proofs.fields.write_kind_line.Statement.{statement}
-use Rattle.lines.proofs.fields.write_kind_line.Tie as tie
+use Rattle.lines.proofs.kinds.write_kind_line.Statement.{statement}
+use Rattle.lines.proofs.kinds.write_kind_line.Tie as tie
 
 returns : tie.Need-returns
 returns c =

@@ -1,12 +1,12 @@
--- `lines::fields::write_line` meets its contract. The invariant: the word and so many numbers are written, one behind the other.
+-- `lines::numbered::write_line` meets its contract. The invariant: the word and so many numbers are written, one behind the other.
 use Prim.Native.Nat.{_-_}
 use native.Mathlib.Omega.{arith}
 use lib.ListN.{length}
 use borrow.Author.Needs.{needs}
 use Rattle.texts.proofs.Texts.{wrote-none, wrote-length, wrote-inside, grown-inside}
 use Rattle.lines.proofs.Spaced.{Lining, lining-none, lining-more, lining-all}
-use Rattle.lines.proofs.fields.write_line.Statement.{statement}
-use Rattle.lines.proofs.fields.write_line.Tie as tie
+use Rattle.lines.proofs.numbered.write_line.Statement.{statement}
+use Rattle.lines.proofs.numbered.write_line.Tie as tie
 
 abbrev Inv-loop : tie.InvT-loop
 Inv-loop text₀ word numbers at₀ next₀ t6 text at next = Lining text₀ word numbers text at next
