@@ -1,4 +1,4 @@
-// What the placing looks up: the arrows that come from each group, as lists, and how many lead into each.
+// What placing and ring look up: an entry by group, the arrows that come from each group, as lists, and how many lead into each.
 use bitmap::Bitmap;
 use bitmap::insert;
 use chains::push;
@@ -11,10 +11,21 @@ use graph::target;
 use model::ITEMS;
 ghost use mathlib.Core.Path.{_≡_};
 ghost use Rattle.model.specs.Choice.{numbersFrom};
+ghost use Rattle.indexing.specs.Entries.{entryAt};
 ghost use Rattle.indexing.specs.Indexes.{index, raised, indexedEdge, indexed, readied, readiedAll};
 
 // For each arrow the one below it in its list.
 pub type Links = [u16; EDGES];
+
+// An entry of an array; 0 outside it.
+pub fn entry(list: &Groups, place: usize) -> u16
+    ensures { λ r. ⌜ r ≡ entryAt (now (list .entry)) place ⌝ }
+{
+    if place < ITEMS {
+        return list[place];
+    }
+    0
+}
 
 // One arrow more leads into a group. No group has more of them than there are arrows, so the count fits.
 fn raise(waiting: &mut Groups, group: usize)

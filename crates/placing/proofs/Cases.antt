@@ -14,7 +14,7 @@ use Rattle.bitmap.specs.declared.Lowest.{Lowest}
 use Rattle.bitmap.specs.declared.Lowest.the-variants.{Number, Empty}
 use Rattle.bitmap.specs.Bitmaps.{inserted, found, foundIn, lowestIn, Taken}
 use Rattle.graph.specs.Edges.{targetAt}
-use Rattle.placing.specs.Releases.{Counts, counts, released, releasedEdges, headAt, edgesFromGroup}
+use Rattle.placing.specs.Releases.{Counts, counts, released, releasedEdges, edgesFromGroup}
 use Rattle.placing.specs.Turns.{placed, noted, takeNext, placeOn}
 
 -- One arrow fewer.
@@ -48,16 +48,7 @@ module _ (table : Table) (links : List ℕ) (member : ℕ) (c : Counts) where
   unfolding releasedEdges
   release-done h = let e : member ≡ 0 = omega arith in rw (e, no-members links)
 
--- The head of a group's list; and a group behind others.
-module _ (heads : List ℕ) (group : ℕ) where
-  pub head-inside : group < maxItems → getD heads group 0 ≡ headAt heads group
-  unfolding headAt
-  head-inside h = rw (lt-ltb _ _ h)
-
-  pub head-outside : maxItems ≤ group → 0 ≡ headAt heads group
-  unfolding headAt
-  head-outside h = rw (le-ltb _ _ h)
-
+-- A group behind others.
 module _ (order : List ℕ) (count group : ℕ) where
   pub noted-inside : count < maxItems → set order count group ≡ noted order count group
   unfolding noted

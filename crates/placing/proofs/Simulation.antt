@@ -21,9 +21,10 @@ use Rattle.chains.specs.Chains.{Listed}
 use Rattle.bitmap.specs.Bitmaps.{IsLowest, lowestIn, lowestTaken}
 use Rattle.indexing.specs.Degrees.{inDegree, inDegrees}
 use Rattle.indexing.specs.Indexed.{graphTo, numbersOut, countInto}
+use Rattle.indexing.proofs.Entries.{entry-is}
 use Rattle.indexing.proofs.Lists.{list-counts, list-within}
 use Rattle.placing.specs.declared.Placed.{Placed}
-use Rattle.placing.specs.Releases.{Counts, counts, releasedEdges, headAt, edgesFromGroup}
+use Rattle.placing.specs.Releases.{Counts, counts, releasedEdges, edgesFromGroup}
 use Rattle.placing.specs.Turns.{placed, noted, takeNext, placeOn}
 use Rattle.placing.specs.Standing.{Stands}
 use Rattle.bitmap.proofs.Holding.{lowest-none, lowest-some}
@@ -52,8 +53,7 @@ module _ (n : ℕ) (b : n ≤ maxItems) (table : Table) (count : ℕ) (heads lin
     unplaced left = select left (numbersFrom 0 n)
 
     own-list : (g : ℕ) → g < maxItems → edgesFromGroup heads links g ≡ numbersOut n table count g
-    unfolding headAt
-    own-list g h = rw (lt-ltb g maxItems h) (lists .lists g (omega (arith, long)))
+    own-list g h = rw (entry-is heads g long) (lists .lists g (omega (arith, long)))
 
     module _ {left : ℕ → Bool} {c : Counts} (s : Stands left (inDegree (edgesOut left graph)) c) where
       -- A group is taken, and its arrows with it.

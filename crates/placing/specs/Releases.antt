@@ -9,6 +9,7 @@ use Rattle.memory.specs.Tables.{Table}
 use Rattle.chains.specs.Chains.{members}
 use Rattle.bitmap.specs.Bitmaps.{inserted}
 use Rattle.graph.specs.Edges.{targetAt}
+use Rattle.indexing.specs.Entries.{entryAt}
 
 -- How many arrows each group waits for, and the groups that can be placed.
 pub record Counts : Type 0 where
@@ -35,10 +36,6 @@ unfoldable pub releasedEdges : Table → (edges : List ℕ) → Counts → Count
 releasedEdges table [] c = c
 releasedEdges table (edge ∷ edges) c = releasedEdges table edges (released (targetAt table edge) c)
 
--- The first name in a group's list; 0 outside the array.
-unfoldable pub headAt : (heads : List ℕ) → (group : ℕ) → ℕ
-headAt heads group = when (ltb group maxItems) (λ _. getD heads group 0) (λ _. 0)
-
 -- The arrows that come from a group.
 abbrev pub edgesFromGroup : (heads links : List ℕ) → (group : ℕ) → List ℕ
-edgesFromGroup heads links group = members links (headAt heads group)
+edgesFromGroup heads links group = members links (entryAt heads group)

@@ -6,11 +6,12 @@ use graph::Edges;
 use graph::Groups;
 use graph::target;
 use indexing::Links;
+use indexing::entry;
 use model::ITEMS;
 ghost use mathlib.Core.Path.{_≡_};
 ghost use Prim.Native.Nat.{_-_, _<_};
 ghost use Rattle.graph.specs.Edges.{targetAt};
-ghost use Rattle.placing.specs.Releases.{counts, released, releasedEdges, headAt, edgesFromGroup};
+ghost use Rattle.placing.specs.Releases.{counts, released, releasedEdges, edgesFromGroup};
 
 // One arrow fewer leads into a group, and if that was the last one the group can be placed.
 fn release_group(waiting: &mut Groups, ready: &mut Bitmap, group: u16)
@@ -26,16 +27,6 @@ fn release_group(waiting: &mut Groups, ready: &mut Bitmap, group: u16)
             }
         }
     }
-}
-
-// The first name in a group's list; 0 outside the array.
-fn head_at(heads: &Groups, group: usize) -> u16
-    ensures { λ r. ⌜ r ≡ headAt (now (heads .entry)) group ⌝ }
-{
-    if group < ITEMS {
-        return heads[group];
-    }
-    0
 }
 
 // The arrow that a list names is gone.
@@ -61,7 +52,7 @@ pub fn release(
         releasedEdges (now (edges .entry)) (edgesFromGroup (now (heads .entry)) (now (links .entry)) group)
         (counts (now (waiting .entry)) (now (ready .entry))) ⌝ }
 {
-    let mut member = head_at(heads, group as usize);
+    let mut member = entry(heads, group as usize);
     while member > 0 {
         release_edge(edges, member, waiting, ready);
         member = older(links, member);

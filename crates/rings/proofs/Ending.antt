@@ -8,7 +8,7 @@ use native.Mathlib.Nat.{min-le-left, min-le-right}
 use native.Mathlib.Numerals.{add-one}
 use native.Mathlib.Omega.{arith}
 use lib.Dec.{eqb, ltb}
-use lib.ListN.{length, getD, set, length-set, replicate, length-replicate, getD-replicate}
+use lib.ListN.{length, getD, set, length-set, replicate, length-replicate, getD-replicate, List·getD-eq-default}
 use lib.Seq.{getD-set-same, getD-set-other}
 use borrow.Author.Tests.{eqb-true, eqb-false, ltb-true, ltb-false}
 use Rattle.model.specs.Limits.{maxItems}
@@ -25,11 +25,13 @@ use Rattle.ordering.proofs.Passing.{Passes, passes-walk, passes-step}
 use Rattle.ordering.proofs.WalkBack.{min-either}
 use Rattle.rings.specs.declared.searches.Closing.{Closing}
 use Rattle.rings.specs.declared.searches.Reached.{Reached}
-use Rattle.rings.specs.Searches.{entryAt, Lists, Onward, among, State, Arrays, numbers, reachedAt, Ahead, Back, Begun, Explored, Explores}
+use Rattle.indexing.specs.Entries.{entryAt}
+use Rattle.rings.specs.Searches.{Lists, Onward, among, State, Arrays, numbers, reachedAt, Ahead, Back, Begun, Explored, Explores}
 use Rattle.rings.specs.Searches.{closing, Beats, Better, ClosesBy, Closes, Ready, Told, Distances, Searched}
 use Rattle.rings.proofs.Counting.{ones-set, ones-none}
 use Rattle.rings.proofs.Meeting.{Beyond, state-complete, state-lowest}
-use Rattle.rings.proofs.Left.{outside, entry-is, among-keeps, among-within}
+use Rattle.indexing.proofs.Entries.{entry-is}
+use Rattle.rings.proofs.Left.{among-keeps, among-within}
 
 -- Only the root is met.
 state-begins : (F : List Edge) (root : ℕ) (D L Q : ℕ → ℕ) → D root ≡ 1 → ((x : ℕ) → ¬ (x ≡ root) → D x ≡ 0) → L root ≡ root → Q 0 ≡ root →
@@ -62,7 +64,7 @@ module _ {root most : ℕ} {lows queue : List ℕ} (r : Ready root most lows que
   cleared x =
       decided (ltb x maxItems)
       (λ t. getD-replicate {A = ℕ} maxItems x 0 0 (ltb-true x maxItems t))
-      (λ t. outside (replicate maxItems 0) x (omega (arith, ltb-false x maxItems t, length-replicate {A = ℕ} maxItems 0)))
+      (λ t. List·getD-eq-default (replicate maxItems 0) 0 {n = x} (omega (arith, ltb-false x maxItems t, length-replicate {A = ℕ} maxItems 0)))
 
   pub begun : Begun most distances₀ (set lows root root) (set queue 0 root)
   begun =

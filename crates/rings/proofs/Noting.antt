@@ -9,7 +9,7 @@ use native.Mathlib.Nat.{min-le-right}
 use native.Mathlib.Numerals.{add-one}
 use native.Mathlib.Omega.{arith}
 use lib.Dec.{eqb, ltb}
-use lib.ListN.{length, replicate, length-set, length-replicate}
+use lib.ListN.{length, replicate, length-set, length-replicate, List·getD-eq-default}
 use borrow.Author.Tests.{eqb-true, eqb-false, eq-eqb, ltb-true, ltb-false}
 use Rattle.model.specs.Limits.{maxItems, maxEdges}
 use Rattle.model.specs.Choice.{numbersFrom}
@@ -24,8 +24,9 @@ use Rattle.chains.proofs.Chains.{no-members, empty-listed, listed-later, push-l
 use Rattle.graph.specs.Edges.{edgeAt, edgesIn, sourceAt, targetAt, among}
 use Rattle.ordering.proofs.Edges.{_⟶_}
 use Rattle.rings.specs.Found.{waits, counts, counted, edge}
-use Rattle.rings.specs.Searches.{entryAt, Indexed, Cleared}
-use Rattle.rings.proofs.Left.{outside, entry-is}
+use Rattle.indexing.specs.Entries.{entryAt}
+use Rattle.rings.specs.Searches.{Indexed, Cleared}
+use Rattle.indexing.proofs.Entries.{entry-is}
 
 -- What stands in a list of values.
 in-map : {A B : Type 0} (f : A → B) (l : List A) {a : A} → a ∈ l → f a ∈ map f l
@@ -132,7 +133,7 @@ module _ (groups : ℕ) (waiting : List ℕ) (table : Table) where
           (λ t. absurd (List·Memᴰ·not-nil
           (subst (λ (z : List ℕ). k ∈ z)
           (ap (members links)
-          (entry-is heads h (n .heads-long) ∙ outside heads h (omega (arith, ltb-false h maxItems t, n .heads-long)))
+          (entry-is heads h (n .heads-long) ∙ List·getD-eq-default heads 0 (omega (arith, ltb-false h maxItems t, n .heads-long)))
           ∙ no-members links)
           m)))
 

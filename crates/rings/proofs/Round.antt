@@ -9,7 +9,7 @@ use Rattle.model.specs.Checks.{fill}
 use Rattle.memory.proofs.Filled.{fill-more}
 use Rattle.rings.specs.declared.Found.{Found}
 use Rattle.rings.specs.Found.{foundAs}
-use Rattle.rings.specs.Searches.{entryAt}
+use Rattle.indexing.specs.Entries.{entryAt}
 use Rattle.rings.specs.Nexts.{followed}
 
 abbrev foundIn : (old : List ℕ) → List ℕ → Found

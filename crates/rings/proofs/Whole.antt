@@ -26,10 +26,11 @@ use Rattle.ordering.proofs.Shortest.{Starts}
 use Rattle.rings.specs.declared.Found.{Found}
 use Rattle.rings.specs.Found.{waits, ringAmong, foundAs, counted}
 use Rattle.rings.specs.declared.searches.Closing.{Closing as Root}
-use Rattle.rings.specs.Searches.{entryAt, numbers, Cleared, Indexed, among, Ready, Told, Distances, Searched}
+use Rattle.indexing.specs.Entries.{entryAt}
+use Rattle.rings.specs.Searches.{numbers, Cleared, Indexed, among, Ready, Told, Distances, Searched}
 use Rattle.rings.specs.Roots.{Rooted, Choice, Chosen}
 use Rattle.rings.specs.Nexts.{Nexts, followed}
-use Rattle.rings.proofs.Left.{entry-is}
+use Rattle.indexing.proofs.Entries.{entry-is}
 use Rattle.rings.proofs.Following.{followed-first}
 
 -- What is selected of numbers that rise rises, and is no more.

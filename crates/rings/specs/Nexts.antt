@@ -7,7 +7,7 @@ use Rattle.model.specs.Limits.{maxItems}
 use Rattle.model.specs.HappensBefore.{Edge}
 use Rattle.model.proofs.Lists.{_∈_}
 use Rattle.ordering.proofs.Edges.{_⟶_}
-use Rattle.rings.specs.Searches.{entryAt}
+use Rattle.indexing.specs.Entries.{entryAt}
 
 -- h was met, and lies one arrow nearer than x.
 abbrev pub Nearer : (D : ℕ → ℕ) → (x h : ℕ) → Type 0

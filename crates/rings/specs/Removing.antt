@@ -12,7 +12,8 @@ use Rattle.chains.specs.Chains.{members}
 use Rattle.graph.specs.Edges.{targetAt}
 use Rattle.ordering.proofs.Lengths.{Walk}
 use Rattle.ordering.proofs.Passing.{Passes}
-use Rattle.rings.specs.Searches.{entryAt, Onward, among}
+use Rattle.indexing.specs.Entries.{entryAt}
+use Rattle.rings.specs.Searches.{Onward, among}
 
 -- Of a list from one member on, the members before another lead to groups that are taken out.
 pub record FirstLeft (table : Table) (onward cursors : List ℕ) (member next : ℕ) : Type 0 where

@@ -5,24 +5,21 @@ use mathlib.Core.Path.{_≡_}
 use mathlib.Core.Bool.{not}
 use mathlib.Core.List.{List}
 use mathlib.Core.Logic.{_⊎_}
-use lib.Dec.{eqb, ltb}
+use lib.Dec.{eqb}
 use lib.ListN.{length, getD, set, replicate}
 use Rattle.model.specs.Limits.{maxItems, maxEdges}
-use Rattle.model.specs.Choice.{when, select}
+use Rattle.model.specs.Choice.{select}
 use Rattle.model.specs.HappensBefore.{Edge}
 use Rattle.model.proofs.Lists.{_∈_}
 use Rattle.memory.specs.Tables.{Table}
 use Rattle.chains.specs.Chains.{members}
 use Rattle.graph.specs.Edges.{sourceAt, targetAt}
+use Rattle.indexing.specs.Entries.{entryAt}
 use Rattle.ordering.proofs.Edges.{_⟶_}
 use Rattle.ordering.proofs.Lengths.{Walk}
 use Rattle.ordering.proofs.Passing.{Passes}
 use Rattle.rings.specs.declared.searches.Closing.{Closing}
 use Rattle.rings.specs.declared.searches.Reached.{Reached}
-
--- An entry of an array; 0 outside it.
-unfoldable pub entryAt : List ℕ → (place : ℕ) → ℕ
-entryAt l place = when (ltb place maxItems) (λ _. getD l place 0) (λ _. 0)
 
 -- The lists by target stand for these arrows.
 pub record Lists (E : List Edge) (table : Table) (heads links : List ℕ) : Type 0 where

@@ -1,13 +1,13 @@
 // The way round: for each group the lowest next one that lies nearer to the root, and the groups met by following these.
 use crate::Found;
 use crate::arrows::counts;
-use crate::numbers::entry;
 use crate::numbers::lower;
 use graph::Edges;
 use graph::Groups;
 use graph::edges_in;
 use graph::source;
 use graph::target;
+use indexing::entry;
 use model::ITEMS;
 ghost use mathlib.Core.Path.{_≡_};
 ghost use Prim.Native.Nat.{_≤_, _<_, min};
@@ -15,7 +15,7 @@ ghost use lib.ListN.{getD, set};
 ghost use Rattle.model.specs.Limits.{maxItems};
 ghost use Rattle.graph.specs.Edges.{edgesIn};
 ghost use Rattle.rings.specs.Found.{counted, foundAs};
-ghost use Rattle.rings.specs.Searches.{entryAt};
+ghost use Rattle.indexing.specs.Entries.{entryAt};
 ghost use Rattle.rings.specs.Nexts.{TellsNearer, Nexts, followed};
 
 // Stands for no group: all groups are lower.

@@ -2,11 +2,11 @@
 // taken out: one with no arrow to a group that is left is on no way round, and goes too.
 use crate::arrows::end_of;
 use crate::arrows::start_of;
-use crate::numbers::entry;
 use chains::older;
 use graph::Edges;
 use graph::Groups;
 use indexing::Links;
+use indexing::entry;
 use model::ITEMS;
 ghost use Rattle.model.specs.Limits.{maxItems};
 ghost use Rattle.rings.specs.Removing.{FirstLeft, Room, Removable, Thinned, TakenOut};

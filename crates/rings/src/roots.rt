@@ -1,6 +1,5 @@
 // The group from which the fewest arrows lead back to it, and of several the lowest.
 use crate::arrows::start_of;
-use crate::numbers::entry;
 use crate::numbers::lower;
 use crate::removing::take_out;
 use crate::searches::Closing;
@@ -10,6 +9,7 @@ use chains::older;
 use graph::Edges;
 use graph::Groups;
 use indexing::Links;
+use indexing::entry;
 use model::ITEMS;
 ghost use mathlib.Core.Path.{_≡_};
 ghost use Rattle.model.specs.Limits.{maxItems};

@@ -1,12 +1,12 @@
 // The search back from a group through the groups that are left.
 use crate::arrows::end_of;
 use crate::arrows::start_of;
-use crate::numbers::entry;
 use crate::numbers::lower;
 use chains::older;
 use graph::Edges;
 use graph::Groups;
 use indexing::Links;
+use indexing::entry;
 use model::ITEMS;
 ghost use mathlib.Core.Path.{_≡_};
 ghost use Rattle.rings.specs.Searches.{reachedAt, Meets, Visits, Ahead, Back, Begun, Explores, Better, ClosesBy, Closes, Ready, Searched};

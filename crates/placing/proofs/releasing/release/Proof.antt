@@ -18,7 +18,7 @@ abbrev μ-loop : tie.MeasureT-loop
 μ-loop edges heads links group waiting₀ ready₀ member₀ waiting ready member = member
 
 loop-holds : tie.Need-loop-holds Inv-loop μ-loop
-loop-holds c = rw (c .head-at .ensures)
+loop-holds c = rw (c .entry .ensures)
 
 -- The turn, behind its test.
 abbrev atArgs : (c : tie.After-older Inv-loop μ-loop) → tie.After-release-edge-arg2 Inv-loop μ-loop
