@@ -6,7 +6,7 @@ use mathlib.Core.List.{[], _∷_, _++_, map, map-append}
 use native.Mathlib.Numerals.{add-one}
 use native.Mathlib.Omega.{arith}
 use lib.Dec.{ltb, eqb}
-use lib.ListN.{length, replicate, length-set, length-map, length-replicate, getD-replicate}
+use lib.ListN.{length, replicate, length-map, length-replicate, getD-replicate}
 use borrow.Author.Tests.{lt-ltb, ltb-true, eq-eqb, ne-eqb}
 use Rattle.model.specs.Limits.{maxItems, maxEdges}
 use Rattle.model.specs.Choice.{select, numbersFrom}
@@ -14,14 +14,13 @@ use Rattle.model.proofs.Laws.{decided, and-true}
 use Rattle.model.proofs.Selections.{select-own, select-other, count-own, count-other}
 use Rattle.memory.specs.Tables.{Table}
 use Rattle.memory.proofs.Filled.{numbers-length, list-of}
-use Rattle.chains.specs.Chains.{Listed, headsAfter, linksAfter}
-use Rattle.chains.proofs.Cases.{pushed-inside}
-use Rattle.chains.proofs.Chains.{empty-listed, listed-later, push-listed}
+use Rattle.chains.specs.Chains.{headsAfter, linksAfter}
 use Rattle.graph.specs.Edges.{edgeAt, sourceAt, targetAt, among}
 use Rattle.indexing.specs.Degrees.{inDegree, inDegrees, byGroup}
 use Rattle.indexing.specs.Indexes.{Index, index, emptyIndex, raised, indexedEdge, indexedEdges}
-use Rattle.indexing.specs.Indexed.{graphTo, numbersOut, Indexed}
+use Rattle.indexing.specs.Indexed.{graphTo, inGraph, Indexed}
 use Rattle.indexing.proofs.Selecting.{count-within, numbers-last}
+use Rattle.indexing.proofs.ByKey.{lists-none, lists-skipped, lists-noted}
 use Rattle.indexing.proofs.ByGroup.{group-at, group-set}
 
 -- One arrow more into a group.
@@ -60,46 +59,26 @@ module _ (n : ℕ) (table : Table) where
       let long : length all ≡ k = length-map (numbersFrom 0 k) (edgeAt table) ∙ numbers-length 0 k in
       omega (arith, within, some, long)
 
-  -- The next arrow is none between groups.
+  -- The next arrow is none between groups, or it is one.
   skipped : (k : ℕ) (i : Index) → among n (edgeAt table k) ≡ false → Indexed n table k i → Indexed n table (suc k) i
-  unfolding numbersOut
   skipped k i t so-far =
-      let later = listed-later (so-far .lists) {later = suc k} (omega arith) in
       record {
-        heads-long = so-far .heads-long;
-        links-long = so-far .links-long;
-        lists = record { heads-below = later .heads-below; lists = λ key h. rw t (later .lists key h) };
+        by-source = lists-skipped (so-far .by-source) t;
         counted = so-far .counted ∙ ap inDegrees (sym (graph-kept k t));
       }
 
-  -- The next arrow is one.
   module _ (b : n ≤ maxItems) (k : ℕ) (i : Index) (room : k < maxEdges) (t : among n (edgeAt table k) ≡ true) (so-far : Indexed n table k i) where
-    own : sourceAt table k < length (i .heads)
-    own =
-        let from = ltb-true (sourceAt table k) n (and-true (ltb (sourceAt table k) n) (ltb (targetAt table k) n) t .0) in
-        omega (arith, from, so-far .heads-long)
-
-    to-below : targetAt table k < maxItems
-    to-below =
-        let to = ltb-true (targetAt table k) n (and-true (ltb (sourceAt table k) n) (ltb (targetAt table k) n) t .1) in
-        omega (arith, to)
-
-    noted-lists : Listed
-        (headsAfter (i .heads) (i .links) (sourceAt table k) (suc k))
-        (linksAfter (i .heads) (i .links) (sourceAt table k) (suc k))
-        (suc k)
-        (numbersOut n table (suc k))
-    unfolding numbersOut
-    noted-lists =
-        let pushed = push-listed (so-far .lists) (sourceAt table k) own (omega (arith, so-far .links-long)) in
-        record { heads-below = pushed .heads-below; lists = λ key h. rw t (pushed .lists key h) }
+    ends : (sourceAt table k < maxItems) × (targetAt table k < maxItems)
+    ends =
+        let (from, to) = and-true (ltb (sourceAt table k) n) (ltb (targetAt table k) n) t in
+        (omega (arith, ltb-true (sourceAt table k) n from), omega (arith, ltb-true (targetAt table k) n to))
 
     noted-counts : raised (i .waiting) (targetAt table k) ≡ inDegrees (graphTo n table (suc k))
     unfolding inDegree
     noted-counts =
         let bound = degree-bound k (targetAt table k) in
         rw (so-far .counted, graph-more k t)
-        (raised-is (inDegree (graphTo n table k)) (inDegree (graphTo n table k ++ edgeAt table k ∷ [])) (targetAt table k) to-below
+        (raised-is (inDegree (graphTo n table k)) (inDegree (graphTo n table k ++ edgeAt table k ∷ [])) (targetAt table k) (ends .1)
         (omega (arith, bound))
         (count-own (λ e. eqb (e .to) (targetAt table k)) (graphTo n table k) (edgeAt table k) (eq-eqb (targetAt table k) (targetAt table k) refl))
         (λ g ne. sym (count-other (λ e. eqb (e .to) g) (graphTo n table k) (edgeAt table k) (ne-eqb (targetAt table k) g (λ e. ne (sym e))))))
@@ -110,12 +89,8 @@ module _ (n : ℕ) (table : Table) where
         (linksAfter (i .heads) (i .links) (sourceAt table k) (suc k))
         (raised (i .waiting) (targetAt table k)))
     noted =
-        let one-less = so-far .links-long in
-        let after = pushed-inside (i .heads) (i .links) (sourceAt table k) (suc k) (omega arith) own (omega (arith, room, one-less)) in
         record {
-          heads-long = ap length (sym (after .heads-after)) ∙ length-set (i .heads) (sourceAt table k) (suc k) ∙ so-far .heads-long;
-          links-long = ap length (sym (after .links-after)) ∙ length-set (i .links) _ _ ∙ so-far .links-long;
-          lists = noted-lists;
+          by-source = lists-noted (so-far .by-source) t (ends .0) room (record { heads-after = refl; links-after = refl });
           counted = noted-counts;
         }
 
@@ -140,18 +115,10 @@ module _ (n : ℕ) (table : Table) where
   unfolding inDegree select numbersFrom
   degree-none g = refl
 
-  no-lists : Listed (replicate maxItems 0) (replicate maxEdges 0) 0 (numbersOut n table 0)
-  unfolding numbersOut
-  no-lists =
-      let none = empty-listed maxItems (replicate maxEdges 0) in
-      record { heads-below = none .heads-below; lists = none .lists }
-
   none-indexed : Indexed n table 0 emptyIndex
   none-indexed =
       record {
-        heads-long = length-replicate {A = ℕ} maxItems 0;
-        links-long = length-replicate {A = ℕ} maxEdges 0;
-        lists = no-lists;
+        by-source = lists-none (inGraph n table) (sourceAt table);
         counted =
             list-of (inDegree (graphTo n table 0)) 0 maxItems 0 (replicate maxItems 0) (length-replicate {A = ℕ} maxItems 0)
             (λ g h. getD-replicate maxItems g 0 0 h ∙ sym (degree-none (0 + g)));

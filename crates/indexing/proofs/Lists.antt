@@ -2,8 +2,7 @@
 use Prim.Native.Nat.{ℕ, zero, suc, _<_}
 use mathlib.Core.Path.{_≡_, refl, sym, ap, _∙_}
 use mathlib.Core.Bool.{true, false}
-use mathlib.Core.List.{List, [], _∷_, _++_, List·Memᴰ·not-nil, List·Memᴰ·cases-cons}
-use mathlib.Core.Logic.{⊎-elim}
+use mathlib.Core.List.{List, [], _∷_, _++_}
 use lib.Dec.{ltb, eqb}
 use borrow.Author.Tests.{ltb-true, eqb-true, eqb-false, eq-eqb, ne-eqb}
 use Rattle.model.specs.Choice.{select, numbersFrom}
@@ -14,7 +13,8 @@ use Rattle.memory.specs.Tables.{Table}
 use Rattle.graph.specs.Edges.{edgeAt, sourceAt, targetAt, among}
 use Rattle.model.proofs.Lists.{_∈_}
 use Rattle.indexing.specs.Degrees.{inDegree}
-use Rattle.indexing.specs.Indexed.{graphTo, numbersOut, countInto}
+use Rattle.indexing.specs.Indexed.{numbersBy, graphTo, inGraph, numbersOut, countInto}
+use Rattle.indexing.proofs.ByKey.{numbers-sound}
 use Rattle.indexing.proofs.Indexes.{graph-more, graph-kept}
 
 module _ (n : ℕ) (table : Table) (g h : ℕ) where
@@ -32,12 +32,12 @@ module _ (n : ℕ) (table : Table) (g h : ℕ) where
 
   -- No arrow, and one arrow more.
   list-none : countInto table (numbersOut n table 0 g) h ≡ inDegree (fromOne (graphTo n table 0)) h
-  unfolding numbersOut numbersFrom countInto inDegree select
+  unfolding numbersBy numbersFrom countInto inDegree select
   list-none = refl
 
   list-more : (k : ℕ) → countInto table (numbersOut n table k g) h ≡ inDegree (fromOne (graphTo n table k)) h →
       countInto table (numbersOut n table (suc k) g) h ≡ inDegree (fromOne (graphTo n table (suc k))) h
-  unfolding numbersOut
+  unfolding numbersBy
   list-more k same =
       decided (among n (edgeAt table k))
       (λ t. decided (eqb g (sourceAt table k))
@@ -58,14 +58,6 @@ module _ (n : ℕ) (table : Table) (g h : ℕ) where
 
 -- They lead to groups.
 pub list-within : (n : ℕ) (table : Table) (k g edge : ℕ) → edge ∈ numbersOut n table k g → targetAt table edge < n
-unfolding numbersOut
-list-within n table zero g edge m = absurd (List·Memᴰ·not-nil m)
-list-within n table (suc k) g edge m =
-    decided (among n (edgeAt table k))
-    (λ t. decided (eqb g (sourceAt table k))
-    (λ u. ⊎-elim
-    (λ e. rw e (ltb-true (targetAt table k) n (and-true (ltb (sourceAt table k) n) (ltb (targetAt table k) n) t .1)))
-    (λ r. list-within n table k (sourceAt table k) edge r)
-    (List·Memᴰ·cases-cons (rw (t, u) at m)))
-    (λ u. list-within n table k g edge (rw (t, u) at m)))
-    (λ t. list-within n table k g edge (rw t at m))
+list-within n table k g edge m =
+    let (below, inside, own) = numbers-sound (inGraph n table) (sourceAt table) k g edge m in
+    ltb-true (targetAt table edge) n (and-true (ltb (sourceAt table edge) n) (ltb (targetAt table edge) n) inside .1)

@@ -17,11 +17,11 @@ use Rattle.model.specs.Orders.{Placing, firstFree, without, notFrom, stuck, pla
 use Rattle.model.proofs.Laws.{and-true}
 use Rattle.memory.specs.Tables.{Table}
 use Rattle.memory.proofs.Filled.{fill-more}
-use Rattle.chains.specs.Chains.{Listed}
+use Rattle.graph.specs.Edges.{sourceAt}
 use Rattle.bitmap.specs.Bitmaps.{IsLowest, lowestIn, lowestTaken}
 use Rattle.indexing.specs.Degrees.{inDegree, inDegrees}
-use Rattle.indexing.specs.Indexed.{graphTo, numbersOut, countInto}
-use Rattle.indexing.proofs.Entries.{entry-is}
+use Rattle.indexing.specs.Indexed.{ListsBy, graphTo, inGraph, numbersOut, countInto}
+use Rattle.indexing.proofs.ByKey.{members-by}
 use Rattle.indexing.proofs.Lists.{list-counts, list-within}
 use Rattle.placing.specs.declared.Placed.{Placed}
 use Rattle.placing.specs.Releases.{Counts, counts, releasedEdges, edgesFromGroup}
@@ -43,17 +43,14 @@ noted-fills front old g room h = rw (lt-ltb (length front) maxItems h) (fill-mor
 abbrev pub finished : (front zeros : List ℕ) → Placing → Placed
 finished front zeros p = placed (length front + length (p .placed)) (fill (front ++ p .placed) zeros) (inDegrees (p .edges))
 
-module _ (n : ℕ) (b : n ≤ maxItems) (table : Table) (count : ℕ) (heads links zeros : List ℕ) (long : length heads ≡ maxItems)
-    (room : length zeros ≡ maxItems) (lists : Listed heads links count (numbersOut n table count))
+module _ (n : ℕ) (b : n ≤ maxItems) (table : Table) (count : ℕ) (heads links zeros : List ℕ) (room : length zeros ≡ maxItems)
+    (lists : ListsBy (inGraph n table) (sourceAt table) count heads links)
   where
     abbrev graph : List Edge
     graph = graphTo n table count
 
     abbrev unplaced : (left : ℕ → Bool) → List ℕ
     unplaced left = select left (numbersFrom 0 n)
-
-    own-list : (g : ℕ) → g < maxItems → edgesFromGroup heads links g ≡ numbersOut n table count g
-    own-list g h = rw (entry-is heads g long) (lists .lists g (omega (arith, long)))
 
     module _ {left : ℕ → Bool} {c : Counts} (s : Stands left (inDegree (edgesOut left graph)) c) where
       -- A group is taken, and its arrows with it.
@@ -67,7 +64,7 @@ module _ (n : ℕ) (b : n ≤ maxItems) (table : Table) (count : ℕ) (heads lin
             (releasedEdges table (edgesFromGroup heads links g) (counts (c .waiting) (lowestTaken (c .ready))))
         after =
             let is : IsLowest _ g = lowest-some (s .holds) lowest in
-            rw (own-list g (is .below))
+            rw (members-by lists g (is .below))
             (stands-released-edges table (inDegree (edgesOut (but left g) graph)) (numbersOut n table count g)
             (λ e m. let below = list-within n table count g e m in omega (arith, below))
             (stands-same split (stands-taken s g lowest)))

@@ -80,7 +80,7 @@ module _ (n : ℕ) (b : n ≤ maxItems) (table : Table) (count : ℕ) (i : Index
       placeOn table (i .heads) (i .links) n 0 zeros (counts (i .waiting) (readiedAll (i .waiting) (numbersFrom 0 n) emptyBitmap)) ≡
       behind zeros (place n (numbersFrom 0 n) (graphTo n table count))
   start-placed zeros room =
-      let goes = simulates n b table count (i .heads) (i .links) zeros (noted .heads-long) room (noted .lists) n (all n) [] _
+      let goes = simulates n b table count (i .heads) (i .links) zeros room (noted .by-source) n (all n) [] _
       (λ g t. ltb-true g n t) (omega (arith, b)) at-start in
       rw (all-groups n, all-edges n, fill-nothing zeros, zero-add) at goes
 

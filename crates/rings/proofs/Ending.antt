@@ -23,14 +23,14 @@ use Rattle.ordering.proofs.Edges.{_⟶_}
 use Rattle.ordering.proofs.Lengths.{Walk, stay, step, walk-join}
 use Rattle.ordering.proofs.Passing.{Passes, passes-walk, passes-step}
 use Rattle.ordering.proofs.WalkBack.{min-either}
+use Rattle.indexing.specs.Entries.{entryAt}
+use Rattle.indexing.proofs.Entries.{entry-is}
 use Rattle.rings.specs.declared.searches.Closing.{Closing}
 use Rattle.rings.specs.declared.searches.Reached.{Reached}
-use Rattle.indexing.specs.Entries.{entryAt}
 use Rattle.rings.specs.Searches.{Lists, Onward, among, State, Arrays, numbers, reachedAt, Ahead, Back, Begun, Explored, Explores}
 use Rattle.rings.specs.Searches.{closing, Beats, Better, ClosesBy, Closes, Ready, Told, Distances, Searched}
 use Rattle.rings.proofs.Counting.{ones-set, ones-none}
 use Rattle.rings.proofs.Meeting.{Beyond, state-complete, state-lowest}
-use Rattle.indexing.proofs.Entries.{entry-is}
 use Rattle.rings.proofs.Left.{among-keeps, among-within}
 
 -- Only the root is met.

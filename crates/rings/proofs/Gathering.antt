@@ -17,10 +17,10 @@ use Rattle.memory.specs.Tables.{Table}
 use Rattle.graph.specs.Edges.{edgeAt, edgesIn, sourceAt, targetAt}
 use Rattle.ordering.proofs.Edges.{_⟶_}
 use Rattle.ordering.proofs.WalkBack.{min-either}
-use Rattle.rings.specs.Found.{counts, counted, edge}
 use Rattle.indexing.specs.Entries.{entryAt}
-use Rattle.rings.specs.Nexts.{Nearer, TellsNearer, Nexts}
 use Rattle.indexing.proofs.Entries.{entry-is}
+use Rattle.rings.specs.Found.{counts, counted, edge}
+use Rattle.rings.specs.Nexts.{Nearer, TellsNearer, Nexts}
 use Rattle.rings.proofs.Noting.{counting, counted-in, in-counted}
 
 -- An arrow that was gone through, counts, and leads nearer.

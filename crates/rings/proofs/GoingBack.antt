@@ -20,8 +20,8 @@ use Rattle.chains.specs.Chains.{members, olderIn}
 use Rattle.chains.proofs.Chains.{no-members, members-first, older-lower}
 use Rattle.graph.specs.Edges.{sourceAt}
 use Rattle.ordering.proofs.Edges.{_⟶_}
-use Rattle.rings.specs.declared.searches.Reached.{Reached}
 use Rattle.indexing.specs.Entries.{entryAt}
+use Rattle.rings.specs.declared.searches.Reached.{Reached}
 use Rattle.rings.specs.Searches.{Lists, among, State, Arrays, numbers, Ahead, Meets, fresh, again, known, Visits, passed, visited, Back}
 use Rattle.rings.proofs.Left.{among-keeps, among-within}
 use Rattle.rings.proofs.Counting.{ones-set, ones-room}

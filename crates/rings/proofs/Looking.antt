@@ -20,8 +20,8 @@ use Rattle.graph.specs.Edges.{sourceAt}
 use Rattle.ordering.proofs.Edges.{_⟶_}
 use Rattle.ordering.proofs.Lengths.{Walk}
 use Rattle.ordering.proofs.Passing.{Passes, passes-walk, turned, walk-more, rising-open}
-use Rattle.rings.specs.declared.searches.Closing.{Closing}
 use Rattle.indexing.specs.Entries.{entryAt}
+use Rattle.rings.specs.declared.searches.Closing.{Closing}
 use Rattle.rings.specs.Searches.{Lists, Onward, Indexed, among, Beats, Better, Ready, Told, Searched}
 use Rattle.rings.specs.Removing.{Removable, TakenOut}
 use Rattle.rings.specs.Roots.{Entered, limitOf, Grown, Rooted, Chosen}

@@ -7,9 +7,9 @@ use lib.ListN.{length, set, replicate, length-replicate, length-append}
 use Rattle.model.specs.Limits.{maxItems}
 use Rattle.model.specs.Checks.{fill}
 use Rattle.memory.proofs.Filled.{fill-more}
+use Rattle.indexing.specs.Entries.{entryAt}
 use Rattle.rings.specs.declared.Found.{Found}
 use Rattle.rings.specs.Found.{foundAs}
-use Rattle.indexing.specs.Entries.{entryAt}
 use Rattle.rings.specs.Nexts.{followed}
 
 abbrev foundIn : (old : List ℕ) → List ℕ → Found

@@ -18,9 +18,9 @@ use Rattle.chains.proofs.Chains.{no-members, members-first}
 use Rattle.graph.specs.Edges.{targetAt}
 use Rattle.ordering.proofs.Passing.{Passes, passes-walk, turned, passes-or-not, goes-on, walk-more}
 use Rattle.indexing.specs.Entries.{entryAt}
+use Rattle.indexing.proofs.Entries.{entry-is, entry-set, entry-other}
 use Rattle.rings.specs.Searches.{Onward, among}
 use Rattle.rings.specs.Removing.{FirstLeft, Room, Removable, Thins, Thinned, Without, TakenOut}
-use Rattle.indexing.proofs.Entries.{entry-is, entry-set, entry-other}
 use Rattle.rings.proofs.Left.{among-keeps, among-within}
 
 -- The members up to the next lead to groups that are taken out.
