@@ -25,4 +25,5 @@ pub mod Lending
 pub mod Entries
 pub mod Listings
 pub mod Samples
+pub mod Rows
 pub mod StarredRuns

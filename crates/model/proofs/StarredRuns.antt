@@ -1,198 +1,56 @@
--- The starred runs of document 01, a run for each refusal and each of its "Mistakes that look sound", and the forms and refusals that document 02's
--- #107, #105, #108, #102 and #103 brought, as one table in eight sections. Expected answers were worked out by hand from the papers. A theorem for each section,
--- and one for the table, says that the definitions give each of them.
-use Prim.Native.Nat.{ℕ, _+_, _-_}
+-- The starred runs of document 01, a run for each refusal and each of its "Mistakes that look sound", rows that tell each definition from its neighbours,
+-- and the forms and refusals that document 02's requests brought, as one table in sections. Expected answers were worked out by hand from the papers. A
+-- theorem for each section, and one for the table, says that the definitions give each of them.
+use Prim.Native.Nat.{ℕ, _/_, _%_}
 use mathlib.Core.Path.{_≡_, refl, sym, _∙_, ap₂}
 use mathlib.Core.List.{List, [], _∷_, _++_, map, map-append}
-use lib.ListN.{length, replicate}
-use Rattle.model.specs.declared.Answer.{Answer}
+use lib.ListN.{replicate}
 use Rattle.model.specs.declared.Answer.the-variants.{Order, Ring, Refused}
-use Rattle.model.specs.declared.Filled.{Filled}
 use Rattle.model.specs.declared.Filled.the-variants.{Entries}
-use Rattle.model.specs.declared.Refusal.{Refusal}
-use Rattle.model.specs.Formats.{itemMaps}
-use Rattle.model.specs.Checks.{Outcome, checkIn, check, checkBytesIn, checkBytes}
-use Rattle.model.specs.Lending.{Lent}
-use Rattle.model.specs.Slips.{writeSlipIn, writeSlip, readSlipIn, readSlip}
-use Rattle.model.specs.Starts.{writeStart, writeStartBytes, readStartInto, readStartIntoBytes}
-use Rattle.model.specs.Listings.{Listing, listingIn, listing, join}
-use Rattle.model.proofs.Samples.{neighbour, noItems, lateAfter, lateDelivery, deliveryFirst, alone, selfCopy, writeItem, popItem, copyThenStore, storeItem, assumeOf, storeTo, storeOf, valueItem, sums, twoTransfers, overtaking, copyOrStore, longRound, shortRound, barsThenStore, longStore, longAssume, barAlone, barRecord, farCopy, farCommands, farRecord, neighbours, twoAsked, thirdAsked, popAny, popFor, word, over, pastRange, assumeFrom, intoRegister, storeBoth, transferOf, accessItem, bareItem, readings, noReadings, gaugeStart}
+use Rattle.model.specs.Choice.{Each, all, one}
+use Rattle.model.specs.Listings.{join}
+use Rattle.model.proofs.Samples.{text, neighbour, noItems, lateAfter, lateDelivery, deliveryFirst, alone, selfCopy, writeItem, popItem, storeItem}
+use Rattle.model.proofs.Samples.{copyThenStoreBy, copyThenStore, bothStoreFirst, assumeOf, storeTo, storeOf, valueItem, sums, storeByRank}
+use Rattle.model.proofs.Samples.{countUp, countedUp, askOther, otherAsked, twoTransfers, overtaking, copyAndLoad, loadedFirst}
+use Rattle.model.proofs.Samples.{copyOrStore, longRound, shortRound, barsThenStore, shortStore, longStore, longAssume, barAlone, barRecord}
+use Rattle.model.proofs.Samples.{farCopy, farCommands, farPopsFor, farRecord, neighbours, twoAsked, thirdAsked, popAny, popFor}
+use Rattle.model.proofs.Samples.{word, over, pastRange, assumeFrom, intoRegister, storeBoth, transferOf, accessItem, bareItem}
+use Rattle.model.proofs.Samples.{readings, noReadings, gaugeStart}
+use Rattle.model.proofs.Rows.{Row, reply, writes, reads, begins, beginsBytes, recalls, recallsBytes, lent, nines, refusal}
+use Rattle.model.proofs.Rows.{orderFrom, orderRow, ringFrom, ringRow, entryRow, refusedWithFrom, refusedWith, refusedFrom, refusedRow}
+use Rattle.model.proofs.Rows.{listingWith, listingFrom, listingRow, noListingRow, filledWith, filled, notFilled, numberRow, noNumberRow}
 
--- What is asked: the whole check with what both lists hold, the same on bytes, a listing or a slip with what the memory holds, a slip read with N and
--- what the counts hold; a start written from a cell list, and read into one, and both with lists of bytes.
-pub data Question : Type 0 where
-  checks : (program start recorded order cells : List ℕ) → Question
-  enters : (program start recorded order cells : List ℕ) → Question
-  lists : (program start recorded memory : List ℕ) → Question
-  writes : (program start recorded memory : List ℕ) → Question
-  reads : (ranks : ℕ) (slip counts : List ℕ) → Question
-  begins : (program cells memory : List ℕ) → Question
-  beginsBytes : (program cells memory : List ℕ) → Question
-  recalls : (program start cells : List ℕ) → Question
-  recallsBytes : (program start cells : List ℕ) → Question
+-- A store of an expression's value to cell 0, with that value in the item.
+storedRow : (expression : List ℕ) → (value : ℕ) → Row
+unfolding storeOf valueItem orderRow
+storedRow e value = orderRow (storeOf e) (valueItem (value / 256) (value % 256)) (0 ∷ []) (value ∷ [])
 
-pub data Reply : Type 0 where
-  checked : Outcome → Reply
-  printed : Listing → Reply
-  lent : Lent → Reply
-
--- What the definitions say.
-pub reply : Question → Reply
-unfolding
-    itemMaps checkIn checkBytesIn listingIn writeSlipIn readSlipIn writeStart writeStartBytes readStartInto readStartIntoBytes
-reply (checks program start recorded order cells) = checked (check program start recorded order cells)
-reply (enters program start recorded order cells) = checked (checkBytes program start recorded order cells)
-reply (lists program start recorded memory) = printed (listing program start recorded memory)
-reply (writes program start recorded memory) = lent (writeSlip program start recorded memory)
-reply (reads ranks slip counts) = lent (readSlip ranks slip counts)
-reply (begins program cells memory) = lent (writeStart program cells memory)
-reply (beginsBytes program cells memory) = lent (writeStartBytes program cells memory)
-reply (recalls program start cells) = lent (readStartInto program start cells)
-reply (recallsBytes program start cells) = lent (readStartIntoBytes program start cells)
-
-pub record Row : Type 0 where
-  pub question : Question
-  pub expected : Reply
-
--- So many entries of memory, each of which holds 9.
-nines : ℕ → List ℕ
-nines n = replicate n 9
-
-refusal : (number place : ℕ) → Refusal
-refusal number place = record { number = number; place = place }
-
--- An order of these groups with these last cells, each list longer by one entry, which stays. Rows whose name does not say `From` have no start bytes.
-orderFrom : (program start recorded groups cells : List ℕ) → Row
-unfolding nines
-orderFrom program start recorded groups cells =
-    record {
-      question = checks program start recorded (nines (length groups + 1)) (nines (length cells + 1));
-      expected =
-          checked
-          (record { answer = Order (length groups); order = groups ++ 9 ∷ []; cells = cells ++ 9 ∷ [] });
-    }
-
-orderRow : (program recorded groups cells : List ℕ) → Row
-unfolding orderFrom
-orderRow program = orderFrom program []
-
--- A ring of some of so many groups; the order list is as long as the group count, and what the ring leaves of it stays.
-ringFrom : (program start recorded : List ℕ) → (groups : ℕ) → (ring cells : List ℕ) → Row
-unfolding nines
-ringFrom program start recorded groups ring cells =
-    record {
-      question = checks program start recorded (nines groups) (nines (length cells));
-      expected =
-          checked
-          (record { answer = Ring (length ring); order = ring ++ nines (groups - length ring); cells = cells });
-    }
-
-ringRow : (program recorded : List ℕ) → (groups : ℕ) → (ring cells : List ℕ) → Row
-unfolding ringFrom
-ringRow program = ringFrom program []
-
--- The recorder's entry on lists of so many bytes.
-entryRow : (program recorded : List ℕ) → (orderLength cellsLength : ℕ) → Answer → (order cells : List ℕ) → Row
-unfolding nines
-entryRow program recorded orderLength cellsLength answer order cells =
-    record {
-      question = enters program [] recorded (nines orderLength) (nines cellsLength);
-      expected = checked (record { answer = answer; order = order; cells = cells });
-    }
-
--- A refusal with lists of these lengths, which hold what they held.
-refusedWithFrom : (orderLength cellsLength : ℕ) → (program start recorded : List ℕ) → (number place : ℕ) → Row
-unfolding nines refusal
-refusedWithFrom orderLength cellsLength program start recorded number place =
-    record {
-      question = checks program start recorded (nines orderLength) (nines cellsLength);
-      expected =
-          checked
-          (record { answer = Refused (refusal number place); order = nines orderLength; cells = nines cellsLength });
-    }
-
-refusedWith : (orderLength cellsLength : ℕ) → (program recorded : List ℕ) → (number place : ℕ) → Row
-unfolding refusedWithFrom
-refusedWith orderLength cellsLength program = refusedWithFrom orderLength cellsLength program []
-
-refusedFrom : (program start recorded : List ℕ) → (number place : ℕ) → Row
-unfolding refusedWithFrom
-refusedFrom = refusedWithFrom 8 64
-
-refusedRow : (program recorded : List ℕ) → (number place : ℕ) → Row
-unfolding refusedFrom
-refusedRow program = refusedFrom program []
-
--- A listing of these bytes, in memory longer by one byte, which stays.
-listingFrom : (program start recorded : List ℕ) → Answer → (text : List ℕ) → Row
-unfolding nines
-listingFrom program start recorded answer text =
-    record {
-      question = lists program start recorded (nines (length text + 1));
-      expected =
-          printed (record { result = record { answer = answer; length = length text }; memory = text ++ 9 ∷ [] });
-    }
-
-listingRow : (program recorded : List ℕ) → Answer → (text : List ℕ) → Row
-unfolding listingFrom
-listingRow program = listingFrom program []
-
--- A listing that does not fit.
-noListingRow : (program recorded : List ℕ) → (memory needed : ℕ) → Row
-unfolding nines refusal
-noListingRow program recorded memory needed =
-    record {
-      question = lists program [] recorded (nines memory);
-      expected =
-          printed (record { result = record { answer = Refused (refusal 15 needed); length = 0 }; memory = nines memory });
-    }
-
--- A slip or a start written, counts or cells read: entries that fill the memory, longer by one.
-filled : Question → (entries : List ℕ) → Row
-filled question entries =
-    record { question = question; expected = lent (record { answer = Entries (length entries); memory = entries ++ 9 ∷ [] }) }
-
-notFilled : Question → (memory number place : ℕ) → Row
-unfolding nines refusal
-notFilled question memory number place =
-    record { question = question; expected = lent (record { answer = Filled.Refused (refusal number place); memory = nines memory }) }
-
--- `order 0` and a line feed.
+-- What document 01 prints under a and b.
 order0 : List ℕ
-order0 = 111 ∷ 114 ∷ 100 ∷ 101 ∷ 114 ∷ 32 ∷ 48 ∷ 10 ∷ []
+unfolding text
+order0 = text "order 0\n"
 
--- The eight lines that document 01 prints under b.
 lateListing : List ℕ
-unfolding join
+unfolding text
 lateListing =
-    join
-    ((114 ∷ 105 ∷ 110 ∷ 103 ∷ 32 ∷ 51 ∷ 10 ∷ []) ∷
-    (103 ∷ 114 ∷ 111 ∷ 117 ∷ 112 ∷ 32 ∷ 51 ∷ 32 ∷ 119 ∷ 114 ∷ 105 ∷ 116 ∷ 101 ∷ 32 ∷ 50 ∷ 32 ∷ 51 ∷ 10 ∷ []) ∷
-    (103 ∷ 114 ∷ 111 ∷ 117 ∷ 112 ∷ 32 ∷ 52 ∷ 32 ∷ 98 ∷ 97 ∷ 114 ∷ 32 ∷ 48 ∷ 32 ∷ 54 ∷ 10 ∷ []) ∷
-    (103 ∷ 114 ∷ 111 ∷ 117 ∷ 112 ∷ 32 ∷ 53 ∷ 32 ∷ 108 ∷ 111 ∷ 97 ∷ 100 ∷ 32 ∷ 49 ∷ 32 ∷ 56 ∷ 10 ∷ []) ∷
-    (99 ∷ 101 ∷ 108 ∷ 108 ∷ 32 ∷ 49 ∷ 32 ∷ 48 ∷ 32 ∷ 49 ∷ 10 ∷ []) ∷
-    (99 ∷ 101 ∷ 108 ∷ 108 ∷ 32 ∷ 49 ∷ 32 ∷ 49 ∷ 32 ∷ 50 ∷ 10 ∷ []) ∷
-    (99 ∷ 101 ∷ 108 ∷ 108 ∷ 32 ∷ 50 ∷ 32 ∷ 48 ∷ 32 ∷ 50 ∷ 10 ∷ []) ∷
-    (99 ∷ 101 ∷ 108 ∷ 108 ∷ 32 ∷ 50 ∷ 32 ∷ 49 ∷ 32 ∷ 49 ∷ 10 ∷ []) ∷ [])
+    text "ring 3\ngroup 3 write 2 3\ngroup 4 bar 0 6\ngroup 5 load 1 8\ncell 1 0 1\ncell 1 1 2\ncell 2 0 2\ncell 2 1 1\n"
 
--- `refused 1 0` and a line feed.
 refusedLine10 : List ℕ
-refusedLine10 = 114 ∷ 101 ∷ 102 ∷ 117 ∷ 115 ∷ 101 ∷ 100 ∷ 32 ∷ 49 ∷ 32 ∷ 48 ∷ 10 ∷ []
+unfolding text
+refusedLine10 = text "refused 1 0\n"
 
--- The listing of rank 16's copy to rank 9.
+-- The listing of rank 16's copy to rank 9; and that of rank 1's read from rank 2, which holds 7.
 farListing : List ℕ
-unfolding join
-farListing =
-    join
-    ((111 ∷ 114 ∷ 100 ∷ 101 ∷ 114 ∷ 32 ∷ 50 ∷ 10 ∷ []) ∷
-    (103 ∷ 114 ∷ 111 ∷ 117 ∷ 112 ∷ 32 ∷ 48 ∷ 32 ∷ 115 ∷ 116 ∷ 111 ∷ 114 ∷ 101 ∷ 32 ∷ 49 ∷ 54 ∷ 32 ∷ 48 ∷ 10 ∷ []) ∷
-    (103 ∷ 114 ∷ 111 ∷ 117 ∷ 112 ∷ 32 ∷ 49 ∷ 32 ∷ 119 ∷ 114 ∷ 105 ∷ 116 ∷ 101 ∷ 32 ∷ 49 ∷ 54 ∷ 32 ∷ 49 ∷ 10 ∷ []) ∷
-    (99 ∷ 101 ∷ 108 ∷ 108 ∷ 32 ∷ 57 ∷ 32 ∷ 48 ∷ 32 ∷ 49 ∷ 54 ∷ 10 ∷ []) ∷
-    (99 ∷ 101 ∷ 108 ∷ 108 ∷ 32 ∷ 49 ∷ 54 ∷ 32 ∷ 48 ∷ 32 ∷ 49 ∷ 54 ∷ 10 ∷ []) ∷ [])
+unfolding text
+farListing = text "order 2\ngroup 0 store 16 0\ngroup 1 write 16 1\ncell 9 0 16\ncell 16 0 16\n"
+
+askedListing : List ℕ
+unfolding text
+askedListing = text "order 3\ngroup 0 assign 1 0\ngroup 1 assume 1 1\ngroup 2 read 1 2\ncell 1 1 7\ncell 2 0 7\n"
 
 -- The readers: what is refused of program, record and slip bytes, at places that tell neighbouring readings apart.
 pub readingRows : List Row
-unfolding neighbour noItems alone storeOf valueItem sums orderRow refusedRow filled notFilled nines
+unfolding neighbour noItems alone storeOf sums refusedRow filledWith filled notFilled nines storedRow
 readingRows =
     -- 1: no byte at all; a transition cut off in its last expression; a byte left over
     refusedRow [] [] 1 0 ∷
@@ -211,7 +69,7 @@ readingRows =
     refusedRow (alone 1 (1 ∷ 7 ∷ 9 ∷ [])) noItems 3 7 ∷
     refusedRow (alone 1 (1 ∷ 9 ∷ 9 ∷ [])) noItems 3 6 ∷
     refusedRow (storeOf (4 ∷ [])) noItems 3 13 ∷
-    orderRow (storeOf (sums 7 (2 ∷ []))) (valueItem 0 8) (0 ∷ []) (8 ∷ []) ∷
+    storedRow (sums 7 (2 ∷ [])) 8 ∷
     refusedRow (storeOf (sums 7 (0x10 ∷ 2 ∷ 2 ∷ []))) noItems 3 28 ∷
     refusedRow (storeOf (sums 7 (0x10 ∷ []))) noItems 1 28 ∷
     -- 4: no count; an item cut off in its place; a byte left over
@@ -238,6 +96,7 @@ readingRows =
     notFilled (reads 2 (3 ∷ 0 ∷ 1 ∷ 4 ∷ 1 ∷ []) (nines 2)) 2 16 3 ∷
     notFilled (reads 2 (1 ∷ 0 ∷ []) (nines 2)) 2 16 2 ∷
     notFilled (reads 2 (1 ∷ 0 ∷ 1 ∷ 0 ∷ []) (nines 1)) 1 16 3 ∷
+    filledWith 0 (reads 2 (1 ∷ 0 ∷ 1 ∷ []) (nines 2)) (1 ∷ 0 ∷ []) ∷
     notFilled (reads 2 (1 ∷ 0 ∷ 1 ∷ []) (nines 1)) 1 15 2 ∷ []
 
 -- The replay: what it refuses, and the values that it finds.
@@ -280,12 +139,29 @@ replayRows =
     (storeItem 0 0 ++
     (27 ∷ 2 ∷ 2 ∷ 0 ∷ 2 ∷ 0 ∷ 0 ∷ 3 ∷ 6 ∷ 1 ∷ 1 ∷ 3 ∷ 6 ∷ 2 ∷ 1 ∷ 3 ∷ 9 ∷ 1 ∷ 2 ∷ 3 ∷ 9 ∷ 2 ∷ 2 ∷ []))) 13 6 ∷ []
 
+-- Values: what each token gives (document 01, "Expressions"), and what a register holds.
+pub valueRows : List Row
+unfolding word over storeByRank countUp countedUp readings noReadings storedRow orderRow orderFrom
+valueRows =
+    -- "13 and 14 give 1 or 0": 256 equals 256, and not 0, whose low byte is the same; 255 is less than 256, and 256 less than neither 256 nor 255
+    storedRow (over 0x13 (word 1 0) (word 1 0)) 1 ∷
+    storedRow (over 0x13 (word 1 0) (word 0 0)) 0 ∷
+    storedRow (over 0x14 (word 0 255) (word 1 0)) 1 ∷
+    storedRow (over 0x14 (word 1 0) (word 1 0)) 0 ∷
+    storedRow (over 0x14 (word 1 0) (word 0 255)) 0 ∷
+    -- "02 own rank, 03 N": rank 2 of 3 stores 3 + 10 × 2
+    orderRow storeByRank (0 ∷ 1 ∷ 59 ∷ 2 ∷ 2 ∷ 0 ∷ 2 ∷ 0 ∷ 0 ∷ 0 ∷ 23 ∷ []) (0 ∷ []) (0 ∷ 23 ∷ 0 ∷ []) ∷
+    -- "Expressions use the rank's registers before the step", and registers are held per rank: rank 1 counts up to 10, loads 3 and stores 10 − 3; rank 2
+    -- counts up to 5, loads nothing and stores 5 − 0
+    orderFrom countUp (readings 0 1 (0 ∷ 3 ∷ []) ++ noReadings) countedUp (0 ∷ 1 ∷ 2 ∷ 3 ∷ 4 ∷ 5 ∷ []) (3 ∷ 7 ∷ 0 ∷ 5 ∷ []) ∷ []
+
 -- Order, ring and check: the arrows' verdict, what is written where, and the slip and the listing. "Arrows from writes to reads only" would give b an
 -- order.
 pub verdictRows : List Row
 unfolding
-    neighbour noItems lateDelivery selfCopy writeItem popItem twoTransfers overtaking orderRow ringRow entryRow refusedWith listingRow
-    noListingRow filled notFilled nines refusal order0 lateListing refusedLine10 deliveryFirst copyThenStore storeItem
+    neighbour noItems lateDelivery deliveryFirst selfCopy writeItem popItem storeItem copyThenStore twoTransfers overtaking copyAndLoad loadedFirst
+    askOther otherAsked readings noReadings orderRow ringRow entryRow refusedWith listingWith listingFrom listingRow noListingRow filledWith filled
+    notFilled nines refusal order0 lateListing refusedLine10 askedListing
 verdictRows =
     -- a* no items: an order of no groups (prints `order 0`)
     orderRow neighbour noItems [] (0 ∷ 0 ∷ 0 ∷ 0 ∷ []) ∷
@@ -299,6 +175,8 @@ verdictRows =
     orderRow selfCopy (0 ∷ 3 ∷ (writeItem ++ (popItem 7 0 ++ popItem 8 0))) (0 ∷ []) (0 ∷ []) ∷
     -- e* N = 1: write from cell 0 to 1, store to cell 0, popa, popb: ring 0 1
     ringRow copyThenStore (0 ∷ 4 ∷ (writeItem ++ (storeItem 1 0 ++ (popItem 7 0 ++ popItem 8 1)))) 2 (0 ∷ 1 ∷ []) (5 ∷ 5 ∷ []) ∷
+    -- "each time .. the lowest number": 0 is passed over twice, since the loads 1 and 2 come before its delivery, and goes before 3 once they are placed
+    orderRow copyAndLoad loadedFirst (1 ∷ 2 ∷ 0 ∷ 3 ∷ []) (0 ∷ 0 ∷ 2 ∷ 0 ∷ []) ∷
     -- 14 for a ring too, and before 15; 15 with all cells, also for no items
     refusedWith 5 4 neighbour lateDelivery 14 6 ∷
     refusedWith 5 3 neighbour lateDelivery 14 6 ∷
@@ -308,27 +186,34 @@ verdictRows =
     entryRow neighbour lateDelivery 13 8 (Ring 3) (0 ∷ 3 ∷ 0 ∷ 4 ∷ 0 ∷ 5 ∷ nines 7) (0 ∷ 1 ∷ 0 ∷ 2 ∷ 0 ∷ 2 ∷ 0 ∷ 1 ∷ []) ∷
     entryRow neighbour lateDelivery 12 7 (Refused (refusal 15 4)) (nines 12) (nines 7) ∷
     entryRow neighbour lateDelivery 11 7 (Refused (refusal 14 6)) (nines 11) (nines 7) ∷
-    -- the listing of a refused input is its `refused` line; 15 with the length of what does not fit
+    -- the kind words of an assign, an assume and a read
+    listingFrom askOther (noReadings ++ readings 0 1 (0 ∷ 7 ∷ [])) otherAsked (Order 3) askedListing ∷
+    -- the listing of a refused input is its `refused` line; 15 with the length of what does not fit, and an exact fit
     listingRow [] [] (Refused (refusal 1 0)) refusedLine10 ∷
+    listingWith 0 [] [] [] (Refused (refusal 1 0)) refusedLine10 ∷
     noListingRow [] [] 11 12 ∷
     noListingRow neighbour noItems 7 8 ∷
+    listingWith 0 neighbour [] lateDelivery (Ring 3) lateListing ∷
     noListingRow neighbour lateDelivery 101 102 ∷
-    -- the slip: ranks 1 and 2 have 4 and 3 command items; a run without command items has an empty map; refused input; 15
+    -- the slip: ranks 1 and 2 have 4 and 3 command items; a run without command items has an empty map; refused input; an exact fit; 15
     filled (writes neighbour [] lateDelivery (nines 6)) (3 ∷ 0 ∷ 4 ∷ 0 ∷ 3 ∷ []) ∷
     filled (writes neighbour [] noItems (nines 2)) (0 ∷ []) ∷
     notFilled (writes neighbour [] (0 ∷ []) (nines 0)) 0 4 1 ∷
+    filledWith 0 (writes neighbour [] lateDelivery (nines 5)) (3 ∷ 0 ∷ 4 ∷ 0 ∷ 3 ∷ []) ∷
     notFilled (writes neighbour [] lateDelivery (nines 4)) 4 15 5 ∷
     -- "queue order drawn as an arrow": the ring would leave out the store
     ringRow twoTransfers overtaking 3 (0 ∷ 1 ∷ 2 ∷ []) (0 ∷ 0 ∷ 1 ∷ 0 ∷ []) ∷ []
 
 -- Document 02, #111: which ring of several.
 pub ringRows : List Row
-unfolding join ringRow writeItem popItem storeItem copyOrStore longRound shortRound
+unfolding join ringRow writeItem popItem storeItem copyThenStoreBy bothStoreFirst copyOrStore longRound shortRound
 ringRows =
     -- "as few groups as any closed walk along arrows has": 3 4 and not 0 1 2, which document 01's rule found
     ringRow copyOrStore (0 ∷ 9 ∷ (longRound ++ shortRound)) 5 (3 ∷ 4 ∷ []) (5 ∷ 5 ∷ []) ∷
     -- "Of several, take the one whose numbers, listed from its lowest group, come first": 0 1 and not 2 3; 0 1 and not 0 2
     ringRow copyOrStore (0 ∷ 8 ∷ (shortRound ++ shortRound)) 4 (0 ∷ 1 ∷ []) (5 ∷ 5 ∷ []) ∷
+    -- rank 1's groups are 0 and 2, rank 2's 1 and 3, and no arrow leads from one rank to the other: 0 2 and not 1 3
+    ringRow (copyThenStoreBy 2) bothStoreFirst 4 (0 ∷ 2 ∷ []) (5 ∷ 5 ∷ 5 ∷ 5 ∷ []) ∷
     ringRow copyOrStore
     (0 ∷ 7 ∷
     join (writeItem ∷ storeItem 1 0 ∷ (3 ∷ 6 ∷ 1 ∷ 2 ∷ []) ∷ popItem 7 0 ∷ popItem 7 1 ∷ popItem 8 1 ∷ popItem 8 0 ∷ [])) 3 (0 ∷ 1 ∷ [])
@@ -336,10 +221,20 @@ ringRows =
 
 -- Document 02, #107: the forms of a count and of a transition's number, and each refusal at its place.
 pub transitionRows : List Row
-unfolding orderRow refusedRow assumeOf storeTo barsThenStore longStore longAssume
+unfolding orderRow refusedRow numberRow noNumberRow assumeOf storeTo barsThenStore shortStore longStore longAssume
 transitionRows =
     -- transition 256 of 257
     orderRow (barsThenStore 1 1 256) (longStore 0 1 7 1) (0 ∷ []) (7 ∷ []) ∷
+    -- the record alone: numbers of one byte, of which a count's byte says no more than 128, and of two; each up to T − 1
+    numberRow 300 (shortStore 200 7) 200 ∷
+    numberRow 256 (shortStore 255 7) 255 ∷
+    numberRow 400 (longStore 44 1 7 1) 300 ∷
+    numberRow 400 (longStore 143 1 7 1) 399 ∷
+    -- T itself is no transition's number, and is refused at the byte that makes it
+    noNumberRow 200 (shortStore 200 7) 5 ∷
+    noNumberRow 256 (longStore 0 1 7 1) 11 ∷
+    noNumberRow 300 (longStore 44 1 7 1) 11 ∷
+    noNumberRow 400 (longStore 144 1 7 1) 11 ∷
     -- "A count byte 129..254 or a two-byte count not 129..400 gets 2"; a missing byte is 1 at the length
     refusedRow (1 ∷ 1 ∷ 1 ∷ 1 ∷ 1 ∷ 129 ∷ []) [] 2 5 ∷
     refusedRow (1 ∷ 1 ∷ 1 ∷ 1 ∷ 1 ∷ 254 ∷ []) [] 2 5 ∷
@@ -404,7 +299,7 @@ rankRows =
 
 -- Document 02, #108: which entry a pop takes, and each refusal at its place.
 pub neighbourRows : List Row
-unfolding join orderRow ringRow refusedRow neighbours twoAsked thirdAsked popAny popFor
+unfolding join orderRow ringRow refusedRow farCopy farCommands farPopsFor neighbours twoAsked thirdAsked popAny popFor
 neighbourRows =
     -- "A pop without the bit takes the oldest of all"; one that names the oldest's rank takes it too
     orderRow neighbours
@@ -435,6 +330,10 @@ neighbourRows =
     orderRow neighbours
     (0 ∷ 3 ∷ join ((3 ∷ 6 ∷ 2 ∷ 0 ∷ []) ∷ (93 ∷ 7 ∷ 2 ∷ 0 ∷ 2 ∷ 0 ∷ 0 ∷ 2 ∷ []) ∷ (93 ∷ 8 ∷ 2 ∷ 0 ∷ 2 ∷ 0 ∷ 0 ∷ 2 ∷ []) ∷ [])) (0 ∷ [])
     (replicate 6 0) ∷
+    -- a transfer of rank 16 to rank 9 names 9, and one of rank 9 to rank 16 names 16; there is no rank 17 of 16
+    orderRow (farCopy 16) (0 ∷ 4 ∷ (farCommands 16 ++ farPopsFor 16 9)) (0 ∷ 1 ∷ []) (replicate 8 0 ++ 16 ∷ (replicate 6 0 ++ 16 ∷ [])) ∷
+    orderRow (farCopy 16) (0 ∷ 4 ∷ (farCommands 9 ++ farPopsFor 9 16)) (0 ∷ 1 ∷ []) (replicate 8 0 ++ 9 ∷ (replicate 6 0 ++ 9 ∷ [])) ∷
+    refusedRow (farCopy 16) (0 ∷ 1 ∷ 93 ∷ 7 ∷ 16 ∷ 0 ∷ 16 ∷ 0 ∷ 0 ∷ 17 ∷ []) 5 9 ∷
     -- what is overtaken is left
     refusedRow neighbours (0 ∷ 4 ∷ join (twoAsked ∷ popFor 7 3 0 3 ∷ popFor 8 1 0 3 ∷ [])) 13 4 ∷
     -- "one outside 1..N gets 5", at its byte, which is the pop's last; a bad place comes first; a missing byte is 4 at the length
@@ -451,13 +350,13 @@ neighbourRows =
 -- Document 02, #102: values at the edges of their range and beyond, and where 18 stands among the other numbers. Run l is above.
 pub sumRows : List Row
 unfolding
-    noItems storeOf valueItem word over pastRange assumeFrom intoRegister storeBoth transferOf accessItem bareItem orderRow refusedRow
+    noItems storeOf valueItem word over pastRange assumeFrom intoRegister storeBoth transferOf accessItem bareItem orderRow refusedRow storedRow
 sumRows =
     -- 65,535 and 0 are values: 65,535 + 0, 0 − 0, 255 × 257, 65,535 − 65,535
-    orderRow (storeOf (over 0x10 (word 255 255) (word 0 0))) (valueItem 255 255) (0 ∷ []) (65_535 ∷ []) ∷
-    orderRow (storeOf (over 0x11 (word 0 0) (word 0 0))) (valueItem 0 0) (0 ∷ []) (0 ∷ []) ∷
-    orderRow (storeOf (over 0x12 (word 0 255) (word 1 1))) (valueItem 255 255) (0 ∷ []) (65_535 ∷ []) ∷
-    orderRow (storeOf (over 0x11 (word 255 255) (word 255 255))) (valueItem 0 0) (0 ∷ []) (0 ∷ []) ∷
+    storedRow (over 0x10 (word 255 255) (word 0 0)) 65_535 ∷
+    storedRow (over 0x11 (word 0 0) (word 0 0)) 0 ∷
+    storedRow (over 0x12 (word 0 255) (word 1 1)) 65_535 ∷
+    storedRow (over 0x11 (word 255 255) (word 255 255)) 0 ∷
     -- 256 × 256; 65,535 × 65,535, which is 1 modulo 65,536
     refusedRow (storeOf (over 0x12 (word 1 0) (word 1 0))) (valueItem 0 0) 18 0 ∷
     refusedRow (storeOf (over 0x12 (word 255 255) (word 255 255))) (valueItem 0 1) 18 0 ∷
@@ -487,16 +386,15 @@ sumRows =
     -- a transition that is not taken has no values
     orderRow (assumeFrom 0 pastRange) noItems [] (0 ∷ []) ∷ []
 
--- `order 0` and `cell 1 1 2314`.
 gaugeListing : List ℕ
-unfolding order0
-gaugeListing = order0 ++ 99 ∷ 101 ∷ 108 ∷ 108 ∷ 32 ∷ 49 ∷ 32 ∷ 49 ∷ 32 ∷ 50 ∷ 51 ∷ 49 ∷ 52 ∷ 10 ∷ []
+unfolding text
+gaugeListing = text "order 0\ncell 1 1 2314\n"
 
 -- Document 02, #103: what a start puts into the cells, each refusal at its place, and both writer and reader.
 pub startRows : List Row
 unfolding
     join neighbour noItems lateAfter lateDelivery deliveryFirst alone selfCopy writeItem popItem copyThenStore storeItem storeTo barAlone barRecord
-    readings noReadings gaugeStart orderFrom ringFrom refusedFrom refusedWithFrom listingFrom gaugeListing filled notFilled nines
+    readings noReadings gaugeStart orderFrom ringFrom refusedFrom refusedWithFrom listingFrom gaugeListing filledWith filled notFilled nines
 startRows =
     -- a start and no items: `order 0` and the readings; "No bytes at all .. mean that all is 0", and so do the maps without a bit
     orderFrom neighbour gaugeStart noItems [] (0 ∷ 2_314 ∷ 0 ∷ 0 ∷ []) ∷
@@ -539,20 +437,26 @@ startRows =
     refusedFrom neighbour (0 ∷ []) [] 19 1 ∷
     refusedFrom neighbour gaugeStart [] 4 0 ∷
     refusedWithFrom 0 0 neighbour (0 ∷ []) lateDelivery 19 1 ∷
-    -- the writer: what the check fills, and more of the list; "the writer always writes the maps"; the program, the list, then the memory
+    -- the writer: what the check fills, and more of the list; "the writer always writes the maps"
     filled (begins neighbour (0 ∷ 2_314 ∷ 0 ∷ 0 ∷ 7 ∷ []) (nines 19)) gaugeStart ∷
     filled (begins neighbour (replicate 4 0) (nines 17)) (noReadings ++ noReadings) ∷
     filled (begins (storeTo 0) (9 ∷ (replicate 62 0 ++ 65_535 ∷ [])) (nines 13)) (readings 128 1 (0 ∷ 9 ∷ 255 ∷ 255 ∷ [])) ∷
     filled (beginsBytes neighbour (0 ∷ 0 ∷ 9 ∷ 10 ∷ 0 ∷ 0 ∷ 0 ∷ 0 ∷ 7 ∷ []) (nines 19)) gaugeStart ∷
+    -- values of rank 2, alone and behind those of rank 1
+    filled (begins neighbour (0 ∷ 0 ∷ 0 ∷ 7 ∷ []) (nines 19)) (noReadings ++ readings 0 2 (0 ∷ 7 ∷ [])) ∷
+    filled (begins neighbour (5 ∷ 0 ∷ 7 ∷ 1_536 ∷ []) (nines 23)) (readings 0 1 (0 ∷ 5 ∷ []) ++ readings 0 3 (0 ∷ 7 ∷ 6 ∷ 0 ∷ [])) ∷
+    -- the program, the list, then the memory, which may fit exactly
     notFilled (begins [] [] (nines 0)) 0 1 0 ∷
     notFilled (begins neighbour (replicate 3 0) (nines 0)) 0 15 4 ∷
     notFilled (beginsBytes neighbour (replicate 7 0) (nines 0)) 0 15 4 ∷
+    filledWith 0 (begins neighbour (0 ∷ 2_314 ∷ 0 ∷ 0 ∷ []) (nines 18)) gaugeStart ∷
     notFilled (begins neighbour (0 ∷ 2_314 ∷ 0 ∷ 0 ∷ []) (nines 17)) 17 15 18 ∷
-    -- the reader: the program, the start, then the list
+    -- the reader: the program, the start, then the list, which may fit exactly
     filled (recalls neighbour gaugeStart (nines 5)) (0 ∷ 2_314 ∷ 0 ∷ 0 ∷ []) ∷
     filled (recalls neighbour [] (nines 5)) (replicate 4 0) ∷
     notFilled (recalls [] (0 ∷ []) (nines 0)) 0 1 0 ∷
     notFilled (recalls neighbour (0 ∷ []) (nines 0)) 0 19 1 ∷
+    filledWith 0 (recalls neighbour gaugeStart (nines 4)) (0 ∷ 2_314 ∷ 0 ∷ 0 ∷ []) ∷
     notFilled (recalls neighbour gaugeStart (nines 3)) 3 15 4 ∷
     notFilled (recallsBytes neighbour gaugeStart (nines 7)) 7 15 4 ∷
     record {
@@ -575,6 +479,10 @@ reading-rows = refl
 pub replay-rows : Answered replayRows
 unfolding reply replayRows
 replay-rows = refl
+
+pub value-rows : Answered valueRows
+unfolding reply valueRows
+value-rows = refl
 
 pub verdict-rows : Answered verdictRows
 unfolding reply verdictRows
@@ -609,13 +517,22 @@ answered-both : (rows more : List Row) → Answered rows → Answered more → A
 answered-both rows more h g =
     map-append (λ (row : Row). reply (row .question)) rows more ∙ ap₂ _++_ h g ∙ sym (map-append (λ (row : Row). row .expected) rows more)
 
-pub every-row : Answered (readingRows ++ (replayRows ++ (verdictRows ++ (ringRows ++ (transitionRows ++ (rankRows ++ (neighbourRows ++ (sumRows ++ startRows))))))))
+unfoldable pub rowsOf : List (List Row) → List Row
+rowsOf [] = []
+rowsOf (rows ∷ sections) = rows ++ rowsOf sections
+
+answered-all : {sections : List (List Row)} → Each Answered sections → Answered (rowsOf sections)
+unfolding rowsOf
+answered-all all = refl
+answered-all (one {a = rows} {rest = sections} h others) = answered-both rows (rowsOf sections) h (answered-all others)
+
+pub table : List (List Row)
+table =
+    readingRows ∷ replayRows ∷ valueRows ∷ verdictRows ∷ ringRows ∷ transitionRows ∷ rankRows ∷ neighbourRows ∷ sumRows ∷ startRows ∷ []
+
+pub every-row : Answered (rowsOf table)
+unfolding table
 every-row =
-    answered-both readingRows (replayRows ++ (verdictRows ++ (ringRows ++ (transitionRows ++ (rankRows ++ (neighbourRows ++ (sumRows ++ startRows))))))) reading-rows
-    (answered-both replayRows (verdictRows ++ (ringRows ++ (transitionRows ++ (rankRows ++ (neighbourRows ++ (sumRows ++ startRows)))))) replay-rows
-    (answered-both verdictRows (ringRows ++ (transitionRows ++ (rankRows ++ (neighbourRows ++ (sumRows ++ startRows))))) verdict-rows
-    (answered-both ringRows (transitionRows ++ (rankRows ++ (neighbourRows ++ (sumRows ++ startRows)))) ring-rows
-    (answered-both transitionRows (rankRows ++ (neighbourRows ++ (sumRows ++ startRows))) transition-rows
-    (answered-both rankRows (neighbourRows ++ (sumRows ++ startRows)) rank-rows
-    (answered-both neighbourRows (sumRows ++ startRows) neighbour-rows
-    (answered-both sumRows startRows sum-rows start-rows)))))))
+    answered-all
+    (one reading-rows (one replay-rows (one value-rows (one verdict-rows (one ring-rows (one transition-rows (one rank-rows (one neighbour-rows
+    (one sum-rows (one start-rows all))))))))))
