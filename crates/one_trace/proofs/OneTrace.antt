@@ -7,7 +7,6 @@ use mathlib.Core.Option.{some}
 use lib.ListN.{length}
 use Rattle.model.specs.declared.Answer.the-variants.{Order, Ring}
 use Rattle.model.specs.declared.Item.{Item}
-use Rattle.model.specs.Limits.{maxItems}
 use Rattle.model.specs.Refusals.{ok}
 use Rattle.model.specs.Choice.{Each, numbersFrom}
 use Rattle.model.specs.Marked.{markedMap, markedBytes}
@@ -26,10 +25,8 @@ use Rattle.model.proofs.Laws.{ok-injective, each-weaker}
 use Rattle.model.proofs.Accepted.{AcceptedParts, accepted-parts}
 use Rattle.model.proofs.Ranges.{header-fits, read-in-record}
 use Rattle.record_bytes.specs.RecordBytes.{itemBytes, itemsBytes, recordBytes, Writable}
-use Rattle.record_bytes.proofs.WrittenSo.{read-writable, read-few, written-so}
-use Rattle.record_bytes.proofs.ReadBack.{read-back}
-use Rattle.record_bytes.proofs.SmallBytes.{record-small}
-use Rattle.record_bytes.proofs.Accepting.{accept-written}
+use Rattle.record_bytes.specs.Claims.{WritableRecord, RecordForms}
+use Rattle.record_bytes.proofs.Records.{record-forms, accept-written}
 use Rattle.traces.specs.Claims.{RecordedRun, Exchangeable, Accesses, DifferOffAccesses, SameLogs}
 use Rattle.traces.specs.Claims as Verdicts
 use Rattle.traces.proofs.Pairs.{facts-of}
@@ -135,14 +132,15 @@ module _ (program start recorded : List ℕ) (a : Accepted) (bound : AreBytes re
 
   module _ (before : List Item) (x y : Item) (after : List Item) (read : readRecord (a .program .header) recorded ≡ ok (before ++ x ∷ y ∷ after))
       (may : Exchangeable (a .run .events) (length before) x y) where
-    each : Each (Writable (a .program .header)) (before ++ x ∷ y ∷ after)
-    each = read-writable (a .program .header) recorded bound read
+    forms : RecordForms (a .program .header)
+    forms = record-forms (a .program .header) (header-fits program (parts .program-read))
 
-    each′ : Each (Writable (a .program .header)) (before ++ y ∷ x ∷ after)
-    each′ = Items.each-exchanged before x y after each
+    writable : WritableRecord (a .program .header) (before ++ x ∷ y ∷ after)
+    writable = forms .written-so recorded (before ++ x ∷ y ∷ after) bound read .1
 
-    few : length (before ++ y ∷ x ∷ after) ≤ maxItems
-    few = rw (as-many before x y after) (read-few (a .program .header) recorded read)
+    writable′ : WritableRecord (a .program .header) (before ++ y ∷ x ∷ after)
+    writable′ =
+        record { few = rw (as-many before x y after) (writable .few); each = Items.each-exchanged before x y after (writable .each) }
 
     replayed : replay (a .program) (a .readings) (before ++ x ∷ y ∷ after) ≡ ok (a .run)
     replayed = replayed-as (before ++ x ∷ y ∷ after) read
@@ -156,25 +154,25 @@ module _ (program start recorded : List ℕ) (a : Accepted) (bound : AreBytes re
 
     exchange : Exchanged program start recorded a before x y after
     exchange =
-        let (run, taken, trace) = Items.exchange (a .program) (a .readings) before x y after (a .run) (in-record each) replayed may in
+        let (run, taken, trace) = Items.exchange (a .program) (a .readings) before x y after (a .run) (in-record (writable .each)) replayed may in
         record {
           count = length (before ++ x ∷ y ∷ after);
-          stands = written-so (a .program .header) recorded bound read ∙ told-apart before x y after;
-          are-bytes = subst AreBytes written (record-small (header-fits program (parts .program-read)) each′ few);
+          stands = forms .written-so recorded (before ++ x ∷ y ∷ after) bound read .0 ∙ told-apart before x y after;
+          are-bytes = subst AreBytes written (forms .records .are-bytes (before ++ y ∷ x ∷ after) writable′);
           read =
               subst (λ l. readRecord (a .program .header) l ≡ ok (before ++ y ∷ x ∷ after)) written
-              (read-back (a .program .header) (before ++ y ∷ x ∷ after) each′ few);
+              (forms .read-back (before ++ y ∷ x ∷ after) writable′);
           too =
               record {
                 run = run;
                 accepted =
                     subst (λ l. IsAccepted program start l (another a (a .readings) run)) written
-                    (accept-written program start (parts .program-read) (parts .start-read) each′ few taken);
+                    (accept-written program start (parts .program-read) (parts .start-read) writable′ taken);
                 trace = trace;
                 same =
                     same-end program start recorded _ a run some-rank
-                    (record { items = before ++ x ∷ y ∷ after; in-record = in-record each; replayed = replayed })
-                    (record { items = before ++ y ∷ x ∷ after; in-record = in-record each′; replayed = taken }) trace;
+                    (record { items = before ++ x ∷ y ∷ after; in-record = in-record (writable .each); replayed = replayed })
+                    (record { items = before ++ y ∷ x ∷ after; in-record = in-record (writable′ .each); replayed = taken }) trace;
               };
         }
 

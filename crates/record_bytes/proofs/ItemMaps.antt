@@ -1,24 +1,22 @@
--- The map of an item that its bytes show: which bits stand, and that it is a map of its kind. Each is one table that is computed.
+-- The maps of items: which bits stand, that the map of an item that its bytes show is one of its kind, and that a kind has no others. Each is one table
+-- that is computed.
 use Prim.Native.Nat.{ℕ, _<_}
-use mathlib.Core.Path.{_≡_, refl, sym, _∙_, ap}
+use mathlib.Core.Path.{_≡_, refl, sym, _∙_, ap, subst}
 use mathlib.Core.Bool.{Bool, true, false, not, _&&_, _||_, Bool·not-not}
-use mathlib.Core.List.{_∷_}
-use lib.Dec.{ltb, leb}
-use borrow.Author.Tests.{ltb-true}
+use lib.Dec.{ltb, leb, eqb}
+use borrow.Author.Tests.{ltb-true, eqb-true}
 use Rattle.model.specs.declared.Item.{Item}
 use Rattle.model.specs.declared.Kind.{Kind}
 use Rattle.model.specs.declared.Kind.the-variants.{Load, Store, Assign, Assume, Read, Write, Popa, Popb, Bar}
 use Rattle.model.specs.Limits.{byteValues}
 use Rattle.model.specs.Choice.{bit, member}
-use Rattle.model.specs.ItemKinds.{kindNumber, hasPlace, isCommandKind}
+use Rattle.model.specs.ItemKinds.{itemKinds, hasPlace, isCommandKind}
 use Rattle.model.specs.Formats.{HasMap, itemMaps}
 use Rattle.model.proofs.Laws.{and-true, decided}
-use Rattle.model.proofs.ItemForms.{today-maps}
-use Rattle.record_bytes.specs.RecordBytes.{isGiven, mapWith, mapOf, itemMap, fieldBytes, itemBytes, Shown}
-
-pub item-bytes : (i : Item) → itemBytes i ≡ itemMap i ∷ kindNumber (i .kind) ∷ fieldBytes (itemMap i) i
-unfolding itemBytes
-item-bytes i = refl
+use Rattle.model.specs.Replay.{every}
+use Rattle.model.proofs.Tables.{everyRow}
+use Rattle.model.proofs.ItemForms.{today-maps, each-map}
+use Rattle.record_bytes.specs.RecordBytes.{isGiven, mapWith, mapOf, itemMap, Shown}
 
 -- What a test that fails tells.
 pub not-true : (b : Bool) → not b ≡ true → b ≡ false
@@ -96,42 +94,74 @@ pub map-small : (i : Item) → itemMap i < byteValues
 map-small i =
     mapWith-small (isCommandKind (i .kind)) (hasPlace (i .kind)) (isGiven (i .given)) (ltb 0 (i .remote)) (leb byteValues (i .transition))
 
--- The map is one of its kind's: a value only with a place, a name only of a pop, a high byte only of a command.
+-- Which of the last three bits may stand: a value only with a place, a name only of a pop, a high byte only of a command.
+pub record Allowed (kind : Kind) (valued named high : Bool) : Type 0 where
+  pub unvalued : hasPlace kind ≡ false → valued ≡ false
+  pub unnamed : isCommandKind kind ≡ true → named ≡ false
+  pub low : isCommandKind kind ≡ false → high ≡ false
+
 abbrev implies : Bool → Bool → Bool
 implies a b = not a || b
 
+-- Such a map is one of the kind's ..
 unfoldable fits : Kind → Bool → Bool → Bool → Bool
 unfolding member itemMaps
 fits k v n h =
     implies (implies v (hasPlace k)) (implies (implies n (not (isCommandKind k)))
     (implies (implies h (isCommandKind k)) (member (mapOf k v n h) (itemMaps k))))
 
-allowed-map : (kind : Kind) (v n h : Bool) → implies v (hasPlace kind) ≡ true → implies n (not (isCommandKind kind)) ≡ true →
-    implies h (isCommandKind kind) ≡ true → member (mapOf kind v n h) (itemMaps kind) ≡ true
+each-fits : (k : Kind) → both (λ v. both (λ n. both (λ h. fits k v n h))) ≡ true
 unfolding fits
-allowed-map kind v n h pv pn ph =
-    rw (pv, pn, ph) at (of-both (λ h. fits kind v n h) (of-both (λ n. both (λ h. fits kind v n h))
-    (of-both (λ v. both (λ n. both (λ h. fits kind v n h))) (each kind) v) n) h)
-  where
-    each : (k : Kind) → both (λ v. both (λ n. both (λ h. fits k v n h))) ≡ true
-    each Load = refl
-    each Store = refl
-    each Assign = refl
-    each Assume = refl
-    each Read = refl
-    each Write = refl
-    each Popa = refl
-    each Popb = refl
-    each Bar = refl
+each-fits Load = refl
+each-fits Store = refl
+each-fits Assign = refl
+each-fits Assume = refl
+each-fits Read = refl
+each-fits Write = refl
+each-fits Popa = refl
+each-fits Popb = refl
+each-fits Bar = refl
+
+implied : (b : Bool) → implies b true ≡ true
+implied true = refl
+implied false = refl
+
+pub allowed-map : {kind : Kind} {v n h : Bool} → Allowed kind v n h → HasMap kind (mapOf kind v n h)
+unfolding fits
+allowed-map {kind} {v} {n} {h} allowed =
+    let valued : implies v (hasPlace kind) ≡ true = decided (hasPlace kind) (λ t. rw t (implied v)) (λ t. rw (allowed .unvalued t)) in
+    let named : implies n (not (isCommandKind kind)) ≡ true = decided (isCommandKind kind) (λ t. rw (allowed .unnamed t)) (λ t. rw t (implied n)) in
+    let high : implies h (isCommandKind kind) ≡ true = decided (isCommandKind kind) (λ t. rw t (implied h)) (λ t. rw (allowed .low t)) in
+    today-maps .only kind (mapOf kind v n h)
+    (rw (valued, named, high) at (of-both (λ h. fits kind v n h) (of-both (λ n. both (λ h. fits kind v n h))
+    (of-both (λ v. both (λ n. both (λ h. fits kind v n h))) (each-fits kind) v) n) h))
+
+-- .. and the kind has no other.
+module _ {kind : Kind} {map : ℕ} (has : HasMap kind map) where
+  pub map-is : map ≡ mapOf kind (bit 5 map) (bit 6 map) (bit 7 map)
+  unfolding everyRow every itemKinds itemMaps
+  map-is =
+      eqb-true map (mapOf kind (bit 5 map) (bit 6 map) (bit 7 map)) (each-map (λ k m. eqb m (mapOf k (bit 5 m) (bit 6 m) (bit 7 m))) refl has)
+
+  pub map-allowed : Allowed kind (bit 5 map) (bit 6 map) (bit 7 map)
+  unfolding everyRow every itemKinds itemMaps
+  map-allowed =
+      record {
+        unvalued = λ is. not-true (bit 5 map) (rw is at (each-map (λ k m. hasPlace k || not (bit 5 m)) refl has));
+        unnamed = λ is. not-true (bit 6 map) (rw is at (each-map (λ k m. not (isCommandKind k) || not (bit 6 m)) refl has));
+        low = λ is. not-true (bit 7 map) (rw is at (each-map (λ k m. isCommandKind k || not (bit 7 m)) refl has));
+      }
+
+  pub map-bits : Bits map (isCommandKind kind) (hasPlace kind) (bit 5 map) (bit 6 map) (bit 7 map)
+  map-bits =
+      subst (λ m. Bits m (isCommandKind kind) (hasPlace kind) (bit 5 map) (bit 6 map) (bit 7 map)) (sym map-is)
+      (bits (isCommandKind kind) (hasPlace kind) (bit 5 map) (bit 6 map) (bit 7 map))
 
 pub has-map : {i : Item} → Shown i → HasMap (i .kind) (itemMap i)
 has-map {i} shown =
-    today-maps .only (i .kind) (itemMap i)
-    (allowed-map (i .kind) (isGiven (i .given)) (ltb 0 (i .remote)) (leb byteValues (i .transition))
-    (decided (hasPlace (i .kind)) (λ t. rw t (placed (isGiven (i .given)))) (λ t. rw (shown .of-no-place t .1)))
-    (decided (isCommandKind (i .kind)) (λ t. rw (shown .of-command t .1)) (λ t. rw t (placed (ltb 0 (i .remote)))))
-    (decided (isCommandKind (i .kind)) (λ t. rw t (placed (leb byteValues (i .transition)))) (λ t. rw (shown .of-pop t))))
-  where
-    placed : (b : Bool) → implies b true ≡ true
-    placed true = refl
-    placed false = refl
+    allowed-map {v = isGiven (i .given)} {n = ltb 0 (i .remote)} {h = leb byteValues (i .transition)}
+    (record {
+      unvalued = λ t. ap isGiven (shown .of-no-place t .1);
+      unnamed = λ t. ap (ltb 0) (shown .of-command t .1);
+      low = λ t. ap (leb byteValues) (shown .of-pop t);
+    })

@@ -1,10 +1,6 @@
--- What is read as a record is what is written of its items, and what is written of items is read back. First the rules for readers, either way; then
--- an item's map; then each way for items and records.
-pub mod Spans
-pub mod Gives
+-- Readers and writers that undo each other: first the rules, then an item's map, its fields, an item and a record.
+pub mod RoundTrip
 pub mod ItemMaps
-pub mod OneForm
-pub mod WrittenSo
-pub mod ReadBack
-pub mod SmallBytes
-pub mod Accepting
+pub mod Fields
+pub mod Items
+pub mod Records

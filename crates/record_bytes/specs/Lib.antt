@@ -1,2 +1,3 @@
--- The writer of records.
+-- The writer of records, and what is claimed of it.
 pub mod RecordBytes
+pub mod Claims
