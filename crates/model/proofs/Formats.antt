@@ -1,10 +1,11 @@
--- A wider format keeps what a narrower one reads: the same program, the same items, so an accepted record's answer, lists, slip and listing. Today's
--- is wider than document 01's, so "Old programs and records keep their bytes and meaning" (document 02, #107).
+-- A wider format keeps what a narrower one reads: the same program, the same items, so the same answer, lists, slip and listing, of a record that is
+-- accepted and of one that the replay refuses. Today's is wider than document 01's, so "Old programs and records keep their bytes and meaning" (document
+-- 02, #107).
 --
 -- A reader that goes by the narrower format is kept by the one that goes by the wider: whatever the first finds, the second finds there. There is a
 -- rule for each way in which readers are put together.
 use Prim.Native.Nat.{ℕ, zero, suc, _+_, _/_, _≤_}
-use mathlib.Core.Path.{_≡_}
+use mathlib.Core.Path.{_≡_, _∙_}
 use mathlib.Core.Bool.{Bool, true, false}
 use mathlib.Core.List.{List}
 use mathlib.Core.Option.{Option, some, none}
@@ -15,9 +16,10 @@ use borrow.Author.Tests.{lt-ltb, ltb-true}
 use Rattle.model.specs.declared.Header.{Header}
 use Rattle.model.specs.declared.Item.{Item}
 use Rattle.model.specs.declared.Kind.{Kind}
+use Rattle.model.specs.declared.Refusal.{Refusal}
 use Rattle.model.specs.Limits.{maxCells, maxRegisters, maxQueues, maxStates, shortTransitions, longCount, maxItems}
 use Rattle.model.specs.Refusals as Refusals
-use Rattle.model.specs.Refusals.{ok, programLength, programRange, recordLength, recordRange}
+use Rattle.model.specs.Refusals.{ok, refused, programLength, programRange, recordLength, recordRange}
 use Rattle.model.specs.Choice.{between, lookup, member}
 use Rattle.model.specs.Bytes.{Found, Reader, _>>=_, here, byte, word, judged, optional, times, whole}
 use Rattle.model.specs.ItemKinds.{itemKinds}
@@ -25,11 +27,13 @@ use Rattle.model.specs.Formats.{Format, document01, today, original}
 use Rattle.model.specs.Programs.{Program, headerNumber, countByte, transitionCount, readHeaderIn, programReaderIn, readProgramIn}
 use Rattle.model.specs.ItemForms.{formOf, itemFormIn, judgedItemForm}
 use Rattle.model.specs.Records.{readItemIn, recordReaderIn, readRecordIn}
+use Rattle.model.specs.Machine.{Start}
 use Rattle.model.specs.StartBytes.{readStart}
+use Rattle.model.specs.Replay.{replay}
 use Rattle.model.specs.Checks.{Accepted, acceptIn, checkResultIn, checkIn, checkBytesIn}
 use Rattle.model.specs.Slips.{writeSlipIn}
 use Rattle.model.specs.Listings.{listingIn}
-use Rattle.model.proofs.Laws.{refused≢ok, bind-ok, decided, between-true, true-between, eqb-refl}
+use Rattle.model.proofs.Laws.{refused≢ok, bind-ok, bind-cong, decided, between-true, true-between, eqb-refl}
 use Rattle.model.proofs.Bytes.{judged-ok, whole-ok}
 use Rattle.model.proofs.ItemForms.{original-maps, today-maps}
 
@@ -42,6 +46,13 @@ pub record Extends (old new : Format) : Type 0 where
 pub today-extends : Extends document01 today
 today-extends =
     record { ranks = omega arith; transitions = omega arith; maps = λ kind map h. today-maps .listed (original (original-maps .only kind map h)) }
+
+-- Bytes that a format reads as a program and as a record of it.
+pub record Readable (format : Format) (program-bytes recorded : List ℕ) : Type 0 where
+  pub program : Program
+  pub items : List Item
+  pub program-read : readProgramIn format program-bytes ≡ ok program
+  pub record-read : readRecordIn format (program .header) recorded ≡ ok items
 
 -- What the first reader finds, the second finds there.
 record Keeps {A : Type 0} (first second : Reader A) : Type 0 where
@@ -149,21 +160,21 @@ module _ {old new : Format} (wider : Extends old new) where
       keeps-whole recordLength
       (keeps-bind (keeps-same (judged (λ n. leb n maxItems) recordRange (word recordLength))) λ count. keeps-times count (item-kept header))
 
-  -- An accepted record of a readable program.
-  module _ (program start recorded : List ℕ) {a : Accepted} (accepted : acceptIn old program start recorded ≡ ok a) where
-    pub accepted-kept : acceptIn new program start recorded ≡ ok a
+  -- A readable program with a readable record, from any start. What becomes of it is the replay's, or the start's: it is accepted with the same run, or
+  -- refused with the same number and place.
+  module _ {program recorded : List ℕ} (readable : Readable old program recorded) (start : List ℕ) where
+    pub accept-kept : acceptIn new program start recorded ≡ acceptIn old program start recorded
     unfolding acceptIn
-    accepted-kept =
-        let (P, read, h₁) = bind-ok (readProgramIn old program) _ accepted in
-        let (readings, begun, h₂) = bind-ok (readStart (P .header) start) _ h₁ in
-        let (items, told, h₃) = bind-ok (readRecordIn old (P .header) recorded) _ h₂ in
-        rw (program-kept program read, begun, record-kept (P .header) recorded told) h₃
+    accept-kept =
+        let h = readable .program .header in
+        rw (readable .program-read, program-kept program (readable .program-read))
+        (bind-cong (readStart h start) _ _ λ readings _. rw (readable .record-read, record-kept h recorded (readable .record-read)))
 
-    -- Its answer, lists, slip and listing, for whatever lent memory.
+    -- So its answer with number and place, lists, slip and listing, for whatever lent memory.
     result-kept : (orderLength cellsLength : ℕ) →
         checkResultIn new program start recorded orderLength cellsLength ≡ checkResultIn old program start recorded orderLength cellsLength
     unfolding checkResultIn
-    result-kept orderLength cellsLength = rw (accepted, accepted-kept)
+    result-kept orderLength cellsLength = rw accept-kept
 
     pub check-kept : (order cells : List ℕ) → checkIn new program start recorded order cells ≡ checkIn old program start recorded order cells
     unfolding checkIn
@@ -175,8 +186,24 @@ module _ {old new : Format} (wider : Extends old new) where
 
     pub slip-kept : (memory : List ℕ) → writeSlipIn new program start recorded memory ≡ writeSlipIn old program start recorded memory
     unfolding writeSlipIn
-    slip-kept memory = rw (accepted, accepted-kept)
+    slip-kept memory = rw accept-kept
 
     pub listing-kept : (memory : List ℕ) → listingIn new program start recorded memory ≡ listingIn old program start recorded memory
     unfolding listingIn
-    listing-kept memory = rw (accepted, accepted-kept)
+    listing-kept memory = rw accept-kept
+
+    -- A record that the replay refuses (7 to 13, and 18) is refused by this number at this place, as it was.
+    pub refused-kept : {readings : Start} {r : Refusal} → readStart (readable .program .header) start ≡ ok readings →
+        replay (readable .program) readings (readable .items) ≡ refused r → acceptIn new program start recorded ≡ refused r
+    unfolding acceptIn
+    refused-kept begun refuses = accept-kept ∙ rw (readable .program-read, begun, readable .record-read, refuses)
+
+-- An accepted record is a readable one.
+pub accepted-readable : (format : Format) (program start recorded : List ℕ) {a : Accepted} → acceptIn format program start recorded ≡ ok a →
+    Readable format program recorded
+unfolding acceptIn
+accepted-readable format program start recorded accepted =
+    let (P, program-read, h₁) = bind-ok (readProgramIn format program) _ accepted in
+    let (readings, start-read, h₂) = bind-ok (readStart (P .header) start) _ h₁ in
+    let (items, record-read, h₃) = bind-ok (readRecordIn format (P .header) recorded) _ h₂ in
+    record { program = P; items = items; program-read = program-read; record-read = record-read }
