@@ -1,4 +1,4 @@
--- What is claimed of the bytes of items and records: reader and writer undo each other, so each item and each record has one form.
+-- What is claimed of the bytes of items, records and headers: reader and writer undo each other, so each of them has one form.
 use Prim.Native.Nat.{ℕ, _+_, _≤_}
 use mathlib.Core.Path.{_≡_}
 use mathlib.Core.List.{List, _++_}
@@ -9,9 +9,10 @@ use Rattle.model.specs.Limits.{maxItems}
 use Rattle.model.specs.Refusals.{ok}
 use Rattle.model.specs.Choice.{Each}
 use Rattle.model.specs.Bytes.{AreBytes, Found, found, Reader}
-use Rattle.model.specs.Programs.{HeaderFits}
+use Rattle.model.specs.Programs.{Program, HeaderFits, readHeader, readProgram}
 use Rattle.model.specs.Records.{readItem, recordReader, readRecord}
 use Rattle.record_bytes.specs.RecordBytes.{itemBytes, recordBytes, Writable}
+use Rattle.record_bytes.specs.HeaderBytes.{headerBytes, WritableHeader}
 
 -- What was read at a place can be written, and its bytes stand there, up to the next place.
 pub record StandsAt {A : Type 0} (written : A → List ℕ) (Can : A → Type 0) (bytes : List ℕ) (at : ℕ) (f : Found A) : Type 0 where
@@ -49,3 +50,11 @@ pub record RecordForms (h : Header) : Type 0 where
       (bytes ≡ recordBytes items) × WritableRecord h items
   -- "each transition number has one form" (document 02, #107), and so has each item, whatever program it is of.
   pub one-form : (other : Header) → HeaderFits other → OneForm (readItem h) (readItem other)
+
+-- The claims of headers: the six numbers that a program begins with have one form, so T has, in one byte or in three.
+pub record HeaderForms : Type 0 where
+  pub headers : RoundTrip readHeader headerBytes WritableHeader
+  pub one-form : OneForm readHeader readHeader
+  -- What is read as a program begins with the bytes of its header.
+  pub begins : (bytes : List ℕ) (P : Program) → AreBytes bytes → readProgram bytes ≡ ok P →
+      (rest : List ℕ) × (bytes ≡ headerBytes (P .header) ++ rest)
