@@ -24,15 +24,15 @@ use Rattle.start_cells.specs.declared.maps.MapRead.the-variants as MapRe
 use Rattle.start_cells.specs.declared.StartRead.the-variants as StartRead
 use Rattle.model.proofs.Laws.{refused≢ok}
 use Rattle.start_cells.specs.Reading.{rowReader, withRow, rowsFrom, cellsRead}
-use Rattle.start_cells.specs.Answers.{mapRead, RowsRead, ReadsInto}
+use Rattle.start_cells.specs.Answers.{mapRead, mapRefusal, RowsRead, ReadsInto}
 use Rattle.start_cells.proofs.MapBytes.{map-told}
 
 -- A rank's row: its map, then the values.
 module _ (cells : ℕ) (bytes : List ℕ) (at : ℕ) {x : MapRead} (read : x ≡ mapRead (startMap cells bytes at)) where
-  pub row-stops : {r : Refusal} → x ≡ MapRead.Refused r →
-      record { ended = Ended.the-variants.Refused r; values = noValues } ≡ valuesRead (rowReader cells bytes at)
+  pub row-stops : {r s : Refusal} → x ≡ MapRead.Refused r → s ≡ mapRefusal x →
+      record { ended = Ended.the-variants.Refused s; values = noValues } ≡ valuesRead (rowReader cells bytes at)
   unfolding rowReader
-  row-stops is = rw (map-told (startMap cells bytes at) read is)
+  row-stops is told = rw (told, is, map-told (startMap cells bytes at) read is)
 
   pub row-goes-on : {map next : ℕ} → x ≡ MapRead.Map map next → {k : ValuesRead} →
       k ≡ valuesRead (valuesAt maxValue startForm map bytes next) → k ≡ valuesRead (rowReader cells bytes at)

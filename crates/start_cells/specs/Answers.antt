@@ -1,6 +1,7 @@
 -- What the readers of a start answer and leave, by what the definitions find.
 use Prim.Native.Nat.{ℕ}
 use mathlib.Core.Path.{_≡_}
+use Rattle.model.specs.declared.Refusal.{Refusal}
 use Rattle.model.specs.Refusals.{Result, ok, refused}
 use Rattle.model.specs.Bytes.{Found}
 use Rattle.memory.specs.Tables.{Table}
@@ -15,6 +16,11 @@ use Rattle.start_cells.specs.declared.StartRead.the-variants as StartRea
 abbrev pub mapRead : Result (Found ℕ) → MapRead
 mapRead (ok f) = MapRead.Map (f .value) (f .next)
 mapRead (refused r) = MapRead.Refused r
+
+-- The refusal in an answer; none is the number 0, which no row of the table has.
+abbrev pub mapRefusal : MapRead → Refusal
+mapRefusal (MapRead.Map map next) = record { number = 0; place = next }
+mapRefusal (MapRead.Refused r) = r
 
 -- Where the rows end, or the refusal; and the table, where they were all read.
 pub record RowsRead (m : Result (Found Table)) (after : Table) (r : Ended) : Type 0 where

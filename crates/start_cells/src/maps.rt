@@ -11,12 +11,27 @@ ghost use Rattle.model.specs.Limits.{mapSize};
 ghost use Rattle.model.specs.Refusals.{startForm};
 ghost use Rattle.model.specs.Bytes.{bigEndian};
 ghost use Rattle.model.specs.StartBytes.{startMap};
-ghost use Rattle.start_cells.specs.Answers.{mapRead};
+ghost use Rattle.start_cells.specs.Answers.{mapRead, mapRefusal};
 
 // A map and the place after it, or the refusal.
 pub enum MapRead {
     Map(u64, usize),
     Refused(Refusal),
+}
+
+impl MapRead {
+    // The refusal in whose place no map was read. No row of the table has the number 0, which stands for none.
+    pub fn refusal(self) -> Refusal
+        ensures { λ r. ⌜ r ≡ mapRefusal self ⌝ }
+    {
+        match self {
+            MapRead::Refused(refusal) => refusal,
+            MapRead::Map(_, next) => Refusal {
+                number: 0,
+                place: next,
+            },
+        }
+    }
 }
 
 // The eight bytes at a place, the highest first.

@@ -18,13 +18,14 @@ ghost use Rattle.start_cells.specs.Answers.{RowsRead};
 fn read_row(start: &[u8], at: usize, cells: u16) -> ValuesRead
     ensures { λ r. ⌜ r ≡ valuesRead (rowReader cells (now (start .entry)) at) ⌝ }
 {
-    match read_map(start, at, cells) {
-        MapRead::Refused(refusal) => ValuesRead {
-            ended: Ended::Refused(refusal),
+    let read = read_map(start, at, cells);
+    let MapRead::Map(map, next) = read else {
+        return ValuesRead {
+            ended: Ended::Refused(read.refusal()),
             values: [0; CELLS],
-        },
-        MapRead::Map(map, next) => read_values(start, next, map, 65535, START_FORM),
-    }
+        };
+    };
+    read_values(start, next, map, 65535, START_FORM)
 }
 
 // The readings of all ranks of a program, put into the rows of a table, and where they end. A row beyond the table is read and not kept.

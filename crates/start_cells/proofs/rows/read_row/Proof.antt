@@ -5,12 +5,10 @@ use Rattle.start_cells.proofs.rows.read_row.Statement.{statement}
 use Rattle.start_cells.proofs.rows.read_row.Tie as tie
 
 returns : tie.Need-returns
-returns c = let atFound = c .before in row-stops _ _ _ (atFound .before .before .read-map .ensures) (atFound .refusal .given .1)
+returns c = search row-stops
 
 returns-2 : tie.Need-returns-2
-returns-2 c =
-    let atFound = c .before .before in
-    row-goes-on _ _ _ (atFound .before .before .read-map .ensures) (atFound .map .given .1) (c .read-values .ensures)
+returns-2 c = search row-goes-on
 
 pub read-row-spec : {M : Type 1} → statement M
 read-row-spec =
@@ -21,4 +19,5 @@ read-row-spec =
     (λ c. search needs)
     (λ c κs. search needs)
     returns
+    (λ c κs. search needs)
     returns-2)
