@@ -10,8 +10,8 @@ use Rattle.model.specs.Bytes.{AreBytes}
 use Rattle.model.specs.Checks.{Verdicts, Outcome, fill, entryBytes, outcome, outcomeBytes, checkResult, checkIn, checkBytesIn}
 use Rattle.model.proofs.Laws.{when-true}
 use Rattle.memory.specs.Tables.{Table}
-use Rattle.lists.specs.Written.{numbersWritten, wordsWritten, cellsListed, cellsWritten, cellWordsWritten}
-use Rattle.lists.proofs.Room.{CellsFit, true-cells-fit}
+use Rattle.lists.specs.Written.{numbersWritten, wordsWritten, cellsListed, cellsWritten, cellWordsWritten, CellsFit}
+use Rattle.lists.proofs.Room.{true-cells-fit}
 use Rattle.lists.proofs.Results.{groups-written, group-words-written}
 use Rattle.demands.specs.Entries.{Form, numbers, bytes}
 use Rattle.demands.specs.Demands.{MeetsDemands}

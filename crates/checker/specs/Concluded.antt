@@ -14,8 +14,7 @@ use Rattle.model.specs.Orders.{Verdict}
 use Rattle.model.specs.Checks.{Verdicts, listed, answered}
 use Rattle.memory.specs.Tables.{Table}
 use Rattle.graph.specs.Edges.{groupList}
-use Rattle.lists.specs.Written.{cellsListed}
-use Rattle.lists.proofs.Room.{CellsFit}
+use Rattle.lists.specs.Written.{cellsListed, CellsFit}
 use Rattle.checker.specs.declared.conclusion.Room.{Room}
 use Rattle.checker.specs.declared.conclusion.Concluded.{Concluded}
 

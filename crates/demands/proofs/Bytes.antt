@@ -10,16 +10,16 @@ use Rattle.model.specs.Programs.{Program}
 use Rattle.model.specs.Machine.{Start}
 use Rattle.model.specs.Rules.{Bare}
 use Rattle.model.specs.Replay.{Event}
-use Rattle.model.specs.HappensBefore.{At, HappensBefore, edgesOf}
+use Rattle.model.specs.HappensBefore.{At, HappensBefore, edgesOf, _⟶_}
 use Rattle.model.specs.Traces.{InRecord}
 use Rattle.model.specs.Orders.{ordered, cyclic}
 use Rattle.model.specs.Checks.{acceptIn, accept, verdictOn, Accepted}
+use Rattle.model.specs.Lists.{_∈_}
 use Rattle.model.proofs.Ranges.{read-in-record}
 use Rattle.model.proofs.Accepted.{AcceptedParts, accepted-parts}
 use Rattle.acceptance.proofs.Acceptance.{record-accepted-iff-run}
-use Rattle.model.proofs.Lists.{_∈_}
-use Rattle.ordering.proofs.Edges.{_⟶_, edges-agree}
-use Rattle.ordering.proofs.Orders.{TopologicalOrder, ShortestRing}
+use Rattle.ordering.proofs.Edges.{edges-agree}
+use Rattle.ordering.specs.Orders.{TopologicalOrder, ShortestRing}
 use Rattle.ordering.proofs.Verdicts.{ordered-or-cyclic}
 use Rattle.ordering.proofs.Runs.{run-order, run-ring}
 use Rattle.record_facts.proofs.FactsHold.{facts}

@@ -16,7 +16,8 @@ use Rattle.model.specs.Rules.{Rank, Cell}
 use Rattle.model.specs.Orders.{Verdict, ordered, cyclic}
 use Rattle.model.specs.Checks.{accept, verdictOn, lastCells, Accepted, fill, Outcome, listed, answered, Verdicts, checkResultIn, checkResult}
 use Rattle.model.proofs.Laws.{bind-ok, required, ok-injective, refused≢ok, getElem?-front}
-use Rattle.ordering.proofs.Orders.{TopologicalOrder, ShortestRing, cycle-length}
+use Rattle.ordering.specs.Orders.{TopologicalOrder, ShortestRing}
+use Rattle.ordering.proofs.Orders.{cycle-length}
 use Rattle.serializability.specs.Claim.{Serializable}
 use Rattle.demands.specs.Entries.{Form, entries, firstEntries}
 use Rattle.demands.specs.Demands.{groupsOf, arrowsOf, cellsOf, Answerable, IsVerdict, countIn, Untouched, RefusedAs, IsRing, IsOrder}

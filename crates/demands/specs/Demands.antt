@@ -20,13 +20,12 @@ use Rattle.model.specs.Machine.{Start}
 use Rattle.model.specs.StartBytes.{readStart}
 use Rattle.model.specs.Rules.{Bare, Rank, Cell, IsRun}
 use Rattle.model.specs.Replay.{Replayed}
-use Rattle.model.specs.HappensBefore.{Edge, HappensBefore, edgesOf}
+use Rattle.model.specs.HappensBefore.{Edge, HappensBefore, edgesOf, _⟶_}
 use Rattle.model.specs.Traces.{SameTrace, SerialRun}
 use Rattle.model.specs.Checks.{accept, Accepted, orderItems, Outcome}
+use Rattle.model.specs.Lists.{_∈_}
 use Rattle.acceptance.specs.Bare.{bare}
-use Rattle.model.proofs.Lists.{_∈_}
-use Rattle.ordering.proofs.Edges.{_⟶_}
-use Rattle.ordering.proofs.Orders.{TopologicalOrder, ShortestRing}
+use Rattle.ordering.specs.Orders.{TopologicalOrder, ShortestRing}
 use Rattle.serializability.specs.Claim.{Serialization}
 use Rattle.demands.specs.Entries.{Form, width, entries, firstEntries}
 

@@ -10,8 +10,9 @@ use lib.Dec.{eqb, ltb}
 use lib.ListN.{length, replicate, length-set, length-replicate, List·getD-eq-default}
 use borrow.Author.Tests.{eqb-true, eqb-false, eq-eqb, ltb-true, ltb-false}
 use Rattle.model.specs.Limits.{maxItems, maxEdges}
+use Rattle.model.specs.Lists.{_∈_}
 use Rattle.model.proofs.Laws.{decided}
-use Rattle.model.proofs.Lists.{_∈_, here, there}
+use Rattle.model.proofs.Lists.{here, there}
 use Rattle.chains.specs.Chains.{Pushed, members}
 use Rattle.chains.proofs.Cases.{pushed-inside}
 use Rattle.chains.proofs.Chains.{no-members, empty-listed, listed-later, push-listed}

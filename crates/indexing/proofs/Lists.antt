@@ -7,11 +7,11 @@ use lib.Dec.{ltb, eqb}
 use borrow.Author.Tests.{ltb-true, eqb-true, eqb-false, eq-eqb, ne-eqb}
 use Rattle.model.specs.Choice.{select, numbersFrom}
 use Rattle.model.specs.HappensBefore.{Edge}
+use Rattle.model.specs.Lists.{_∈_}
 use Rattle.model.proofs.Laws.{decided, and-true}
 use Rattle.model.proofs.Selections.{select-own, select-other, count-own, count-other}
 use Rattle.memory.specs.Tables.{Table}
 use Rattle.graph.specs.Edges.{edgeAt, sourceAt, targetAt, among}
-use Rattle.model.proofs.Lists.{_∈_}
 use Rattle.indexing.specs.Degrees.{inDegree}
 use Rattle.indexing.specs.Indexed.{numbersBy, graphTo, inGraph, numbersOut, countInto}
 use Rattle.indexing.proofs.ByKey.{numbers-sound}

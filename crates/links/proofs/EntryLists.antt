@@ -6,7 +6,8 @@ use mathlib.Core.List.{List, [], _∷_, _++_, map}
 use native.Mathlib.Omega.{arith}
 use lib.ListN.{length}
 use Rattle.model.specs.Choice.{numbersFrom}
-use Rattle.model.proofs.Lists.{_∈_, here, there, Distinct, distinct-within, numbersFrom-length, in-numbersFrom}
+use Rattle.model.specs.Lists.{_∈_, Distinct}
+use Rattle.model.proofs.Lists.{here, there, distinct-within, numbersFrom-length, in-numbersFrom}
 use Rattle.memory.specs.Tables.{Row}
 use Rattle.links.specs.Chains.{first, lastOr, All, Once, Run}
 

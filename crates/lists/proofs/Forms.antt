@@ -14,8 +14,8 @@ use Rattle.model.specs.Checks.{fill, entryBytes}
 use Rattle.memory.specs.Tables.{Table, cellsSize, numberAt}
 use Rattle.memory.proofs.Tables.{number-inside}
 use Rattle.memory.proofs.Filled.{list-of, number-row}
-use Rattle.lists.specs.Written.{numbersWritten, wordsWritten, cellsListed}
-use Rattle.lists.proofs.Room.{true-fits, CellsFit}
+use Rattle.lists.specs.Written.{numbersWritten, wordsWritten, cellsListed, CellsFit}
+use Rattle.lists.proofs.Room.{true-fits}
 use Rattle.lists.proofs.Pasted.{paste-fill, entry-none, entry-length, entry-append, entry-take}
 use Rattle.lists.proofs.Ranks.{rank-more, rank-none, rank-length}
 

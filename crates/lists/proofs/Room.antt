@@ -7,7 +7,7 @@ use lib.Dec.{leb}
 use borrow.Author.Tests.{leb-true, le-leb, not-true, not-false}
 use Rattle.model.specs.Limits.{maxRanks, maxCells}
 use Rattle.model.proofs.Laws.{and-true}
-use Rattle.lists.specs.Written.{fits, cellsFit}
+use Rattle.lists.specs.Written.{fits, cellsFit, CellsFit}
 
 -- A test that a function made for its caller.
 module _ {made test : Bool} (e : made ≡ test) where
@@ -37,11 +37,6 @@ true-fits entries at given count enough inside =
     let few : count ≤ entries = omega arith in
     let place : at ≤ entries - count = omega arith in
     rw (le-leb _ _ enough, le-leb _ _ few, le-leb _ _ place)
-
-pub record CellsFit (entries ranks width : ℕ) : Type 0 where
-  pub few-ranks : ranks ≤ maxRanks
-  pub few-cells : width ≤ maxCells
-  pub room : ranks * width ≤ entries
 
 pub cells-fit-true : (entries ranks width : ℕ) → cellsFit entries ranks width ≡ true → CellsFit entries ranks width
 unfolding cellsFit

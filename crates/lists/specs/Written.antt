@@ -1,5 +1,5 @@
 -- What lent lists hold after numbers are written into them: all of the numbers where there is room for all, and else nothing.
-use Prim.Native.Nat.{ℕ, _-_, _*_, _/_}
+use Prim.Native.Nat.{ℕ, _-_, _*_, _/_, _≤_}
 use mathlib.Core.Bool.{Bool, _&&_}
 use mathlib.Core.List.{List}
 use lib.Dec.{leb}
@@ -23,9 +23,14 @@ unfoldable pub wordsWritten : (bytes : List ℕ) → (at : ℕ) → (numbers : L
 wordsWritten bytes at numbers count =
     when (fits (length bytes / 2) at (length numbers) count) (λ _. paste bytes (2 * at) (entryBytes numbers) (2 * count)) (λ _. bytes)
 
--- The cells have so many ranks and so many cells of each, and a list with so many entries has room for them.
+-- The cells have so many ranks and so many cells of each, and a list with so many entries has room for them: the test, and the fact.
 unfoldable pub cellsFit : (entries ranks width : ℕ) → Bool
 cellsFit entries ranks width = leb ranks maxRanks && leb width maxCells && leb (ranks * width) entries
+
+pub record CellsFit (entries ranks width : ℕ) : Type 0 where
+  pub few-ranks : ranks ≤ maxRanks
+  pub few-cells : width ≤ maxCells
+  pub room : ranks * width ≤ entries
 
 -- The first cells of the first ranks, "rank 1 first".
 abbrev pub cellsListed : Table → (ranks width : ℕ) → List ℕ

@@ -4,7 +4,6 @@ use Prim.Native.Nat.{ℕ, zero, suc, _+_, _≤_, _<_}
 use mathlib.Core.Path.{_≡_, refl, sym, ap, _∙_}
 use mathlib.Core.Bool.{true, false, false≢true}
 use mathlib.Core.List.{List, [], _∷_, _++_, Memᴰ·cast, Memᴰ·append-left, List·Memᴰ·append-cases, List·Memᴰ·not-nil, List·Memᴰ·cases-cons}
-use mathlib.Core.List.{List·Memᴰ as Member}
 pub use mathlib.Core.List.{List·Memᴰ·head as here, List·Memᴰ·tail as there}
 use mathlib.Core.Logic.{⊎-elim}
 use mathlib.Core.Option.{some, Option·none-ne-some, Option·some-injective}
@@ -14,12 +13,8 @@ use lib.ListN.{length, getElem?}
 use borrow.Author.Tests.{eqb-true, eqb-false}
 use Rattle.model.specs.Choice.{member, numbersFrom}
 use Rattle.model.specs.Orders.{without}
+use Rattle.model.specs.Lists.{_∈_, Precedes, Distinct, Rising}
 use Rattle.model.proofs.Laws.{decided}
-
--- a stands in l; `here` and `there` say where.
-infix 50 _∈_
-abbrev pub _∈_ : {A : Type 0} → A → List A → Type 0
-a ∈ l = Member a l
 
 -- What stands in a list has a place there, and what has a place stands there.
 pub position : {A : Type 0} {a : A} {l : List A} → a ∈ l → (i : ℕ) × (getElem? l i ≡ some a)
@@ -45,16 +40,6 @@ member-false g (x ∷ l) h m =
     (λ t. absurd (false≢true (sym (rw t at h))))
     (λ t. ⊎-elim (eqb-false g x t) (member-false g l (rw t at h)) (List·Memᴰ·cases-cons m))
 
--- No number stands twice in the list.
-abbrev pub Distinct : List ℕ → Type 0
-Distinct [] = Unit {0}
-Distinct (x ∷ l) = (¬ (x ∈ l)) × Distinct l
-
--- Each number of the list is lower than all behind it.
-abbrev pub Rising : List ℕ → Type 0
-Rising [] = Unit {0}
-Rising (x ∷ l) = ((y : ℕ) → y ∈ l → x < y) × Rising l
-
 -- In a list of distinct numbers each has one place.
 pub one-place : (l : List ℕ) → Distinct l → (i j : ℕ) {g : ℕ} → getElem? l i ≡ some g → getElem? l j ≡ some g → i ≡ j
 one-place [] d i j p q = absurd (Option·none-ne-some _ p)
@@ -62,14 +47,6 @@ one-place (x ∷ l) d zero zero p q = refl
 one-place (x ∷ l) d zero (suc j) p q = absurd (d .0 (Memᴰ·cast (Option·some-injective _ _ p) (at-position l j q)))
 one-place (x ∷ l) d (suc i) zero p q = absurd (d .0 (Memᴰ·cast (Option·some-injective _ _ q) (at-position l i p)))
 one-place (x ∷ l) d (suc i) (suc j) p q = ap suc (one-place l (d .1) i j p q)
-
--- g stands before h in the list.
-pub record Precedes (l : List ℕ) (g h : ℕ) : Type 0 where
-  pub i : ℕ
-  pub j : ℕ
-  pub first : getElem? l i ≡ some g
-  pub second : getElem? l j ≡ some h
-  pub before : i < j
 
 -- The first of a list stands before all others; and what stands before another does so behind one more.
 pub precedes-rest : (g : ℕ) {h : ℕ} {l : List ℕ} → h ∈ l → Precedes (g ∷ l) g h

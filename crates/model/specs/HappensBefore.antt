@@ -78,10 +78,14 @@ pub record HappensBefore (events : List Event) (g h : ℕ) : Type 0 where
   pub different : ¬ (g ≡ h)
   pub reason : ProgramOrder events x y ⊎ Conflict events x y
 
--- An arrow as it is drawn, by the groups' numbers.
+-- An arrow as it is drawn, by the groups' numbers; g ⟶ h is the one from g to h.
 pub record Edge : Type 0 where
   pub from : ℕ
   pub to : ℕ
+
+infix 70 _⟶_
+abbrev pub _⟶_ : (g h : ℕ) → Edge
+g ⟶ h = record { from = g; to = h }
 
 abbrev pub edges : Event → Event → List Edge
 edges x y = when (eqb (x .group) (y .group)) (λ _. []) (λ _. record { from = x .group; to = y .group } ∷ [])

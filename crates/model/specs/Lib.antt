@@ -2,6 +2,7 @@
 pub mod Limits
 pub mod Refusals
 pub mod Choice
+pub mod Lists
 pub mod Bytes
 pub mod ItemKinds
 pub mod Marked

@@ -20,7 +20,8 @@ use Rattle.model.specs.ItemKinds.{sameKind, isTransfer, hasPlace, Part, 
 use Rattle.model.specs.Programs.{Program}
 use Rattle.model.specs.Machine.{Start}
 use Rattle.model.specs.Replay.{Event, Replayed, replay}
-use Rattle.model.specs.HappensBefore.{At, isCommand, rankOf, conflict}
+use Rattle.model.specs.HappensBefore.{isCommand, rankOf, conflict}
+use Rattle.model.specs.Lists.{_∈_, Precedes}
 
 -- The command items of a rank, and the transitions that they take, in order.
 abbrev pub commandOf : (rank : ℕ) → Event → Bool
@@ -34,19 +35,6 @@ pub record Identified (x y : Event) : Type 0 where
   pub rank : rankOf x ≡ rankOf y
   pub place : x .place ≡ y .place
   pub part : partOf (x .item .kind) ≡ partOf (y .item .kind)
-
--- x stands before y.
-pub record Precedes (events : List Event) (x y : Event) : Type 0 where
-  pub i : ℕ
-  pub j : ℕ
-  pub first : At events i x
-  pub second : At events j y
-  pub before : i < j
-
-infix 20 _∈_
--- An event of the list.
-abbrev pub _∈_ : Event → List Event → Type 0
-_∈_ e events = (i : ℕ) × At events i e
 
 -- The cell of an access, and its value: "what it reads or writes, whether the item gives it or not".
 abbrev pub cellOf : Event → Option Address

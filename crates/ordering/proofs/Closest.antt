@@ -10,9 +10,11 @@ use lib.Dec.{leb}
 use borrow.Author.Tests.{leb-true, leb-false}
 use Rattle.model.specs.HappensBefore.{Edge}
 use Rattle.model.specs.Rings.{Closing, nearer, closest}
+use Rattle.model.specs.Lists.{_∈_, Rising}
 use Rattle.model.proofs.Laws.{decided}
-use Rattle.model.proofs.Lists.{_∈_, here, there, Rising}
-use Rattle.ordering.proofs.Lengths.{Walk, Fewest, unled, led, fewest-is}
+use Rattle.model.proofs.Lists.{here, there}
+use Rattle.ordering.specs.Walks.{Walk}
+use Rattle.ordering.proofs.Lengths.{Fewest, unled, led, fewest-is}
 
 -- So many arrows lead back to one of these groups, from none of them do fewer lead back, and no lower one has as few.
 pub record Closest (groups : List ℕ) (edges : List Edge) (c : Closing) : Type 0 where

@@ -16,16 +16,12 @@ use borrow.Author.Tests.{ne-eqb, eqb-false}
 use Rattle.model.specs.Choice.{when}
 use Rattle.model.specs.Replay.{Event}
 use Rattle.model.specs.HappensBefore.{sameSequence, overwrites, conflict, At, Follows, ProgramOrder, Conflict, HappensBefore}
-use Rattle.model.specs.HappensBefore.{Edge, edges, programEdges, conflictEdges, edgesFrom, edgesOf}
+use Rattle.model.specs.HappensBefore.{Edge, _⟶_, edges, programEdges, conflictEdges, edgesFrom, edgesOf}
+use Rattle.model.specs.Lists.{_∈_}
 use Rattle.model.proofs.Laws.{decided}
-use Rattle.model.proofs.Lists.{_∈_, here}
+use Rattle.model.proofs.Lists.{here}
 use Rattle.ordering.proofs.Links.{sequence-test, overwrite-test}
 use Rattle.ordering.proofs.Nearest.{Nearest, nearest-first, nearest-deeper, nearest-follows, follows-nearest, retest, turned-rest}
-
--- An edge as it is drawn.
-infix 70 _⟶_
-abbrev pub _⟶_ : (g h : ℕ) → Edge
-g ⟶ h = record { from = g; to = h }
 
 -- The one search: an edge from each event that hits, up to the first that stops.
 drawn : (hit stop : Event → Bool) → (y : Event) → (before : List Event) → List Edge

@@ -12,15 +12,15 @@ use lib.Dec.{eqb, ltb}
 use lib.ListN.{length}
 use borrow.Author.Tests.{eqb-true, ltb-true, ltb-false, eq-eqb}
 use Rattle.model.specs.Choice.{member}
-use Rattle.model.specs.HappensBefore.{Edge}
+use Rattle.model.specs.HappensBefore.{Edge, _⟶_}
 use Rattle.model.specs.Rings.{comingTo, lower, lowestNext, onward, firstWalk}
+use Rattle.model.specs.Lists.{_∈_}
 use Rattle.model.proofs.Laws.{decided, and-true, true-and}
-use Rattle.model.proofs.Lists.{_∈_, here, there, member-true, member-false}
-use Rattle.ordering.proofs.Edges.{_⟶_}
-use Rattle.ordering.proofs.Walks.{Along}
+use Rattle.model.proofs.Lists.{here, there, member-true, member-false}
+use Rattle.ordering.specs.Walks.{Along, Walk, step}
 use Rattle.ordering.proofs.WalkBack.{lower-either}
-use Rattle.ordering.proofs.Lengths.{Walk, step, along-walk, coming-walk, walk-coming}
-use Rattle.ordering.proofs.Orders.{ComesFirst, end, less, equal}
+use Rattle.ordering.proofs.Lengths.{along-walk, coming-walk, walk-coming}
+use Rattle.ordering.specs.Orders.{ComesFirst, end, less, equal}
 
 -- The lowest next group has the arrow and is one of the list; and one that has both is no lower.
 lower-le : (g : ℕ) (o : Option ℕ) → lower g o ≤ g

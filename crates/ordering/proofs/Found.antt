@@ -8,8 +8,9 @@ use native.Mathlib.Omega.{arith}
 use lib.ListN.{length}
 use Rattle.model.specs.HappensBefore.{Edge}
 use Rattle.model.specs.Rings.{firstWalk, Closing, closedWalk, ring}
-use Rattle.model.proofs.Lists.{Rising, distinct-within}
-use Rattle.ordering.proofs.Lengths.{Walk}
+use Rattle.model.specs.Lists.{Rising}
+use Rattle.model.proofs.Lists.{distinct-within}
+use Rattle.ordering.specs.Walks.{Walk}
 use Rattle.ordering.proofs.Closest.{Closest, Search, nowhere, somewhere, closest-is}
 use Rattle.ordering.proofs.Shortest.{Starts, front, walk-shortest}
 

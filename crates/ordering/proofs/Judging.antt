@@ -8,16 +8,17 @@ use mathlib.Core.Logic.{⊎-elim}
 use native.Mathlib.Omega.{arith}
 use lib.ListN.{length}
 use Rattle.model.specs.Choice.{numbersFrom}
-use Rattle.model.specs.HappensBefore.{Edge}
+use Rattle.model.specs.HappensBefore.{Edge, _⟶_}
 use Rattle.model.specs.Orders.{Placing, place, ordered, cyclic, judgedBy, verdict}
 use Rattle.model.specs.Rings.{ring}
-use Rattle.model.proofs.Lists.{_∈_, here, there, at-position, distinct-within, Precedes, precedes-trans, precedes-irreflexive}
+use Rattle.model.specs.Lists.{_∈_, Precedes}
+use Rattle.model.proofs.Lists.{here, there, at-position, distinct-within, precedes-trans, precedes-irreflexive}
 use Rattle.model.proofs.Lists.{numbersFrom-length, numbersFrom-bounds, in-numbersFrom, numbersFrom-distinct, numbersFrom-rising}
-use Rattle.ordering.proofs.Edges.{_⟶_}
 use Rattle.ordering.proofs.Placing.{Placed, place-placed}
-use Rattle.ordering.proofs.Walks.{Along, Closed, closed-more, along-relates}
+use Rattle.ordering.specs.Walks.{Along, Closed}
+use Rattle.ordering.proofs.Walks.{closed-more, along-relates}
 use Rattle.ordering.proofs.WalkBack.{walkBack, walk-closes}
-use Rattle.ordering.proofs.Orders.{Proper, TopologicalOrder}
+use Rattle.ordering.specs.Orders.{Proper, TopologicalOrder}
 use Rattle.ordering.proofs.Shortest.{ShortestAmong, ring-shortest}
 
 -- An order comes if no group is left unplaced, and is what is placed. A cycle comes if one is left, and is the ring among those left.

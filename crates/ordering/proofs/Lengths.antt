@@ -11,17 +11,12 @@ use lib.Dec.{eqb}
 use lib.ListN.{length, getElem?}
 use borrow.Author.Tests.{eqb-true, eqb-false}
 use Rattle.model.specs.Choice.{member}
-use Rattle.model.specs.HappensBefore.{Edge}
+use Rattle.model.specs.HappensBefore.{Edge, _⟶_}
 use Rattle.model.specs.Rings.{startsInto, comingTo, fewestFrom, fewest}
+use Rattle.model.specs.Lists.{_∈_}
 use Rattle.model.proofs.Laws.{decided}
-use Rattle.model.proofs.Lists.{_∈_, here, there, member-true, member-false}
-use Rattle.ordering.proofs.Edges.{_⟶_}
-use Rattle.ordering.proofs.Walks.{Along}
-
--- n arrows, one after the other, from x to g.
-pub data Walk (edges : List Edge) : ℕ → ℕ → ℕ → Type 0 where
-  stay : {x g : ℕ} → x ≡ g → Walk edges zero x g
-  step : {n x h g : ℕ} → x ⟶ h ∈ edges → Walk edges n h g → Walk edges (suc n) x g
+use Rattle.model.proofs.Lists.{here, there, member-true, member-false}
+use Rattle.ordering.specs.Walks.{Along, Walk, stay, step}
 
 pub walk-join : {edges : List Edge} {n m x y z : ℕ} → Walk edges n x y → Walk edges m y z → Walk edges (n + m) x z
 walk-join {edges} {x = x} {z = z} (stay e) w = subst (λ (k : ℕ). Walk edges k x z) (sym (zero-add _)) (rw e w)

@@ -1,6 +1,6 @@
--- The argument in its reading order: edges as they are drawn and as they are worded, how many there are, chains of edges, the greedy placing, the
--- walk back that shows that some walk closes, how many arrows lead from group to group, the shortest ring, the verdict, and what all this says of a
--- run; and last that the orders are those of document 01's rule.
+-- The argument in its reading order, behind what specs/ says of walks, orders and rings: edges as they are drawn and as they are worded, how many
+-- there are, chains of edges, the greedy placing, the walk back that shows that some walk closes, how many arrows lead from group to group, the
+-- shortest ring, the verdict, and what all this says of a run; and last that the orders are those of document 01's rule.
 pub mod Nearest
 pub mod Links
 pub mod Edges

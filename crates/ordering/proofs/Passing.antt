@@ -7,23 +7,15 @@ use mathlib.Core.List.{List}
 use native.Mathlib.Omega.{arith}
 use lib.Dec.{eqb}
 use borrow.Author.Tests.{eqb-true, eqb-false}
-use Rattle.model.specs.HappensBefore.{Edge}
+use Rattle.model.specs.HappensBefore.{Edge, _⟶_}
+use Rattle.model.specs.Lists.{_∈_}
 use Rattle.model.proofs.Laws.{decided}
-use Rattle.model.proofs.Lists.{_∈_}
-use Rattle.ordering.proofs.Edges.{_⟶_}
-use Rattle.ordering.proofs.Lengths.{Walk, stay, step, walk-join}
+use Rattle.ordering.specs.Walks.{Walk, stay, step, Passes}
+use Rattle.ordering.proofs.Lengths.{walk-join}
 
 pub walk-more : {edges more : List Edge} {n x h : ℕ} → ((e : Edge) → e ∈ edges → e ∈ more) → Walk edges n x h → Walk more n x h
 walk-more up (stay e) = stay e
 walk-more up (step a w) = step (up _ a) (walk-more up w)
-
--- n arrows from x to h by way of z.
-pub record Passes (edges : List Edge) (n x z h : ℕ) : Type 0 where
-  pub i : ℕ
-  pub j : ℕ
-  pub to : Walk edges i x z
-  pub on : Walk edges j z h
-  pub whole : i + j ≡ n
 
 pub passes-walk : {edges : List Edge} {n x z h : ℕ} → Passes edges n x z h → Walk edges n x h
 passes-walk {edges} {x = x} {h = h} p = subst (λ (k : ℕ). Walk edges k x h) (p .whole) (walk-join (p .to) (p .on))

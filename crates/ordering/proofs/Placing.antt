@@ -13,9 +13,10 @@ use lib.ListN.{length}
 use borrow.Author.Tests.{eqb-true, eqb-false, eq-eqb, ne-eqb}
 use Rattle.model.specs.HappensBefore.{Edge}
 use Rattle.model.specs.Orders.{hasEdgeInto, firstFree, without, notFrom, Placing, stuck, placeNext, place}
+use Rattle.model.specs.Lists.{_∈_, Distinct, Rising, Precedes}
 use Rattle.model.proofs.Selections.{select-keeps, select-within}
 use Rattle.model.proofs.Laws.{decided}
-use Rattle.model.proofs.Lists.{_∈_, here, there, Distinct, Rising, Precedes, precedes-rest, precedes-later}
+use Rattle.model.proofs.Lists.{here, there, precedes-rest, precedes-later}
 use Rattle.model.proofs.Lists.{without-keeps, without-within, without-length, without-distinct, without-rising, without-gone}
 
 -- All edges are between these groups.

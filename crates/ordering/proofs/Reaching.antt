@@ -8,15 +8,15 @@ use mathlib.Core.Option.{Option, some, Option·none-ne-some}
 use native.Mathlib.Omega.{arith}
 use lib.ListN.{length, getElem?}
 use Rattle.model.specs.Choice.{member}
-use Rattle.model.specs.HappensBefore.{Edge}
+use Rattle.model.specs.HappensBefore.{Edge, _⟶_}
 use Rattle.model.specs.Rings.{fewest}
+use Rattle.model.specs.Lists.{_∈_, Distinct}
 use Rattle.model.proofs.Laws.{decided, getElem?-bound, getElem?-front}
 use Rattle.model.proofs.Selections.{split-at}
-use Rattle.model.proofs.Lists.{_∈_, position, member-true, member-false, Distinct, pigeonhole}
-use Rattle.ordering.proofs.Edges.{_⟶_}
-use Rattle.ordering.proofs.Walks.{Along}
-use Rattle.ordering.proofs.Orders.{Proper}
-use Rattle.ordering.proofs.Lengths.{Walk, stay, step, walk-join, walk-between, Fewest, unled, led, fewest-is}
+use Rattle.model.proofs.Lists.{position, member-true, member-false, pigeonhole}
+use Rattle.ordering.specs.Walks.{Along, Walk, stay, step}
+use Rattle.ordering.specs.Orders.{Proper}
+use Rattle.ordering.proofs.Lengths.{walk-join, walk-between, Fewest, unled, led, fewest-is}
 
 -- A number that stands at two places of a list.
 record Twice (l : List ℕ) : Type 0 where

@@ -9,13 +9,15 @@ use mathlib.Core.Option.{some}
 use native.Mathlib.Omega.{arith}
 use lib.ListN.{length, getElem?}
 use Rattle.model.specs.Replay.{Event}
-use Rattle.model.specs.HappensBefore.{At, Follows, ProgramOrder, Conflict, HappensBefore, edgesOf}
+use Rattle.model.specs.HappensBefore.{At, Follows, ProgramOrder, Conflict, HappensBefore, edgesOf, _⟶_}
 use Rattle.model.specs.Orders.{Verdict, ordered, cyclic, verdict}
 use Rattle.model.specs.Checks.{listed}
-use Rattle.ordering.proofs.Edges.{_⟶_, edges-agree}
+use Rattle.model.specs.Lists.{_∈_, Precedes}
+use Rattle.ordering.proofs.Edges.{edges-agree}
 use Rattle.ordering.proofs.Chains.{Reaches, reaches-relates}
-use Rattle.model.proofs.Lists.{_∈_, Precedes, precedes-trans}
-use Rattle.ordering.proofs.Orders.{Proper, TopologicalOrder, Cycle, ShortestRing, cycle-length}
+use Rattle.model.proofs.Lists.{precedes-trans}
+use Rattle.ordering.specs.Orders.{Proper, TopologicalOrder, Cycle, ShortestRing}
+use Rattle.ordering.proofs.Orders.{cycle-length}
 use Rattle.ordering.proofs.Verdicts.{verdict-order, verdict-shortest-ring, rising-ordered}
 
 -- By either reason, the one event stands before the other in the run, and nothing between them passes some test.

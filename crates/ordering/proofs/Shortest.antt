@@ -11,13 +11,14 @@ use lib.ListN.{length, getElem?}
 use borrow.Author.Tests.{ltb-true, ltb-false}
 use Rattle.model.specs.HappensBefore.{Edge}
 use Rattle.model.specs.Rings.{Closing, closedWalk, ring}
+use Rattle.model.specs.Lists.{_∈_, Distinct, Rising}
 use Rattle.model.proofs.Laws.{decided, getElem?-bound, getElem?-front}
 use Rattle.model.proofs.Selections.{split-at}
-use Rattle.model.proofs.Lists.{_∈_, position, Distinct, Rising}
-use Rattle.ordering.proofs.Walks.{Along, Closed}
+use Rattle.model.proofs.Lists.{position}
+use Rattle.ordering.specs.Walks.{Along, Closed, Walk, step}
 use Rattle.ordering.proofs.WalkBack.{Circuit}
-use Rattle.ordering.proofs.Orders.{ComesFirst, less, equal}
-use Rattle.ordering.proofs.Lengths.{Walk, step, walk-join, along-walk, walk-between}
+use Rattle.ordering.specs.Orders.{ComesFirst, less, equal}
+use Rattle.ordering.proofs.Lengths.{walk-join, along-walk, walk-between}
 use Rattle.ordering.proofs.FirstWalks.{FirstWalk, first-walk}
 use Rattle.ordering.proofs.Closest.{Closest, Search, nowhere, somewhere, closest-is}
 

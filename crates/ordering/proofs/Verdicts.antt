@@ -8,9 +8,11 @@ use mathlib.Core.Logic.{_⊎_, inl, inr, ⊎-elim}
 use native.Mathlib.Omega.{arith}
 use Rattle.model.specs.HappensBefore.{Edge}
 use Rattle.model.specs.Orders.{Verdict, ordered, cyclic, verdict}
-use Rattle.model.proofs.Lists.{_∈_}
-use Rattle.ordering.proofs.Walks.{Closed, closed-next, closed-back, closed-two, not-closed}
-use Rattle.ordering.proofs.Orders.{Proper, TopologicalOrder, ShortestRing, order-acyclic, cycle-closed, shortest-one}
+use Rattle.model.specs.Lists.{_∈_}
+use Rattle.ordering.specs.Walks.{Closed}
+use Rattle.ordering.proofs.Walks.{closed-next, closed-back, closed-two, not-closed}
+use Rattle.ordering.specs.Orders.{Proper, TopologicalOrder, ShortestRing}
+use Rattle.ordering.proofs.Orders.{order-acyclic, cycle-closed, shortest-one}
 use Rattle.ordering.proofs.Judging.{in-range, verdict-placed, verdict-shortest}
 
 -- A verdict is one or the other.

@@ -14,14 +14,15 @@ use lib.Dec.{eqb, leb}
 use lib.ListN.{length}
 use borrow.Author.Tests.{eqb-true, eqb-false, leb-true, leb-false}
 use Rattle.model.specs.Choice.{when, member}
-use Rattle.model.specs.HappensBefore.{Edge}
+use Rattle.model.specs.HappensBefore.{Edge, _⟶_}
 use Rattle.model.specs.Orders.{hasEdgeInto, firstFree}
 use Rattle.model.specs.Rings.{lower}
+use Rattle.model.specs.Lists.{_∈_, Distinct}
 use Rattle.model.proofs.Laws.{decided}
-use Rattle.model.proofs.Lists.{_∈_, here, there, member-true, member-false, Distinct, distinct-front, distinct-within}
-use Rattle.ordering.proofs.Edges.{_⟶_}
+use Rattle.model.proofs.Lists.{here, there, member-true, member-false, distinct-front, distinct-within}
 use Rattle.ordering.proofs.Placing.{Within, none-free}
-use Rattle.ordering.proofs.Walks.{Along, Closed, along-front, closed-turns}
+use Rattle.ordering.specs.Walks.{Along, Closed}
+use Rattle.ordering.proofs.Walks.{along-front, closed-turns}
 
 -- Of arrows that all come from unplaced groups, the lowest start of one that leads to g.
 unfoldable pub predecessor : ℕ → List Edge → Option ℕ

@@ -9,19 +9,10 @@ use mathlib.Core.Logic.{⊎-elim}
 use mathlib.Core.Option.{some, Option·none-ne-some, Option·some-injective}
 use native.Mathlib.Omega.{arith}
 use lib.ListN.{length, getElem?}
-use Rattle.model.specs.HappensBefore.{Edge}
-use Rattle.model.proofs.Lists.{_∈_, here}
-use Rattle.ordering.proofs.Edges.{_⟶_}
-
--- A walk: edges lead from g to the first of the list, and from each of the list to the next.
-abbrev pub Along : List Edge → ℕ → List ℕ → Type 0
-Along edges g [] = Unit {0}
-Along edges g (h ∷ l) = (g ⟶ h ∈ edges) × Along edges h l
-
--- A closed walk: edges lead from each to the next, and from the last to the first. It has a member.
-abbrev pub Closed : List Edge → List ℕ → Type 0
-Closed edges [] = ⊥
-Closed edges (g ∷ l) = Along edges g (l ++ g ∷ [])
+use Rattle.model.specs.HappensBefore.{Edge, _⟶_}
+use Rattle.model.specs.Lists.{_∈_}
+use Rattle.model.proofs.Lists.{here}
+use Rattle.ordering.specs.Walks.{Along, Closed}
 
 -- Along more edges; the front of a walk; one step more at its end.
 pub along-more : {edges more : List Edge} → ((e : Edge) → e ∈ edges → e ∈ more) → (g : ℕ) (l : List ℕ) → Along edges g l → Along more g l

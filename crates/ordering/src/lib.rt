@@ -1,1 +1,1 @@
-// Theorems alone: the arrows, the order and the ring of the definitions. See proofs/.
+// Theorems alone: the arrows, the order and the ring of the definitions. See specs/Orders.antt.

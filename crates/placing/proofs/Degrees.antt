@@ -10,8 +10,9 @@ use borrow.Author.Tests.{ne-eqb, eqb-true}
 use Rattle.model.specs.Choice.{select}
 use Rattle.model.specs.HappensBefore.{Edge}
 use Rattle.model.specs.Orders.{hasEdgeInto, notFrom}
+use Rattle.model.specs.Lists.{_∈_}
 use Rattle.model.proofs.Laws.{decided}
-use Rattle.model.proofs.Lists.{_∈_, here, there}
+use Rattle.model.proofs.Lists.{here, there}
 use Rattle.indexing.specs.Degrees.{inDegree}
 use Rattle.placing.proofs.Selecting.{select-same, select-both, count-parts}
 

@@ -12,10 +12,11 @@ use borrow.Author.Tests.{eq-eqb}
 use Rattle.model.specs.Choice.{select, numbersFrom}
 use Rattle.model.specs.HappensBefore.{Edge}
 use Rattle.model.specs.Orders.{Placing, firstFree, without, notFrom, stuck, place}
+use Rattle.model.specs.Lists.{_∈_}
 use Rattle.model.proofs.Laws.{decided}
 use Rattle.model.proofs.Selections.{select-keeps, select-within}
 use Rattle.graph.proofs.Edges.{AllAmong}
-use Rattle.model.proofs.Lists.{_∈_, numbersFrom-length, in-numbersFrom, numbersFrom-bounds, numbersFrom-distinct}
+use Rattle.model.proofs.Lists.{numbersFrom-length, in-numbersFrom, numbersFrom-bounds, numbersFrom-distinct}
 use Rattle.ordering.proofs.Placing.{Placed, place-induction, place-placed, none-free}
 use Rattle.indexing.specs.Degrees.{inDegree}
 use Rattle.placing.proofs.Selecting.{select-same}

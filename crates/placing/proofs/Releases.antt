@@ -7,9 +7,10 @@ use native.Mathlib.Omega.{arith}
 use borrow.Author.Tests.{eq-eqb, ne-eqb}
 use Rattle.model.specs.Limits.{maxItems}
 use Rattle.model.specs.Choice.{select}
+use Rattle.model.specs.Lists.{_∈_}
 use Rattle.memory.specs.Tables.{Table}
 use Rattle.graph.specs.Edges.{targetAt}
-use Rattle.model.proofs.Lists.{_∈_, here, there}
+use Rattle.model.proofs.Lists.{here, there}
 use Rattle.indexing.specs.Indexed.{countInto}
 use Rattle.placing.specs.Releases.{Counts, releasedEdges}
 use Rattle.placing.specs.Standing.{Stands}

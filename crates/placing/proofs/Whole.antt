@@ -13,13 +13,14 @@ use Rattle.model.specs.Choice.{select, numbersFrom}
 use Rattle.model.specs.Checks.{fill}
 use Rattle.model.specs.HappensBefore.{Edge}
 use Rattle.model.specs.Orders.{Placing, place}
+use Rattle.model.specs.Lists.{_∈_}
 use Rattle.model.proofs.Laws.{decided}
 use Rattle.model.proofs.Selections.{select-all}
 use Rattle.memory.specs.Tables.{Table}
 use Rattle.bitmap.specs.Bitmaps.{emptyBitmap}
 use Rattle.graph.specs.Edges.{groupsIn, among, graphIn}
 use Rattle.graph.proofs.Edges.{selected-among, groups-bound}
-use Rattle.model.proofs.Lists.{_∈_, at-position, numbersFrom-bounds}
+use Rattle.model.proofs.Lists.{at-position, numbersFrom-bounds}
 use Rattle.indexing.specs.Degrees.{inDegree, inDegrees}
 use Rattle.indexing.specs.Indexes.{Index, emptyIndex, indexed, readiedAll}
 use Rattle.indexing.specs.Indexed.{Indexed, graphTo}

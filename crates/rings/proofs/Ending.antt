@@ -12,16 +12,17 @@ use lib.ListN.{length, getD, set, length-set, replicate, length-replicate, getD-
 use lib.Seq.{getD-set-same, getD-set-other}
 use borrow.Author.Tests.{eqb-true, eqb-false, ltb-true, ltb-false}
 use Rattle.model.specs.Limits.{maxItems}
-use Rattle.model.specs.HappensBefore.{Edge}
+use Rattle.model.specs.HappensBefore.{Edge, _⟶_}
+use Rattle.model.specs.Lists.{_∈_}
 use Rattle.model.proofs.Laws.{decided}
-use Rattle.model.proofs.Lists.{_∈_, here, there}
+use Rattle.model.proofs.Lists.{here, there}
 use Rattle.memory.specs.Tables.{Table}
 use Rattle.chains.specs.Chains.{members, olderIn}
 use Rattle.chains.proofs.Chains.{no-members, members-first}
 use Rattle.graph.specs.Edges.{targetAt}
-use Rattle.ordering.proofs.Edges.{_⟶_}
-use Rattle.ordering.proofs.Lengths.{Walk, stay, step, walk-join}
-use Rattle.ordering.proofs.Passing.{Passes, passes-walk, passes-step}
+use Rattle.ordering.specs.Walks.{Walk, stay, step, Passes}
+use Rattle.ordering.proofs.Lengths.{walk-join}
+use Rattle.ordering.proofs.Passing.{passes-walk, passes-step}
 use Rattle.ordering.proofs.WalkBack.{min-either}
 use Rattle.indexing.specs.Entries.{entryAt}
 use Rattle.indexing.proofs.Entries.{entry-is}

@@ -8,12 +8,12 @@ use native.Mathlib.Omega.{arith}
 use lib.Dec.{eqb, ltb}
 use borrow.Author.Tests.{eqb-true, eqb-false, ltb-true, ltb-false}
 use Rattle.model.specs.Limits.{maxItems}
-use Rattle.model.specs.HappensBefore.{Edge}
+use Rattle.model.specs.HappensBefore.{Edge, _⟶_}
 use Rattle.model.specs.Rings.{comingTo, lowestNext, onward, firstWalk}
+use Rattle.model.specs.Lists.{_∈_}
 use Rattle.model.proofs.Laws.{decided}
-use Rattle.model.proofs.Lists.{_∈_}
-use Rattle.ordering.proofs.Edges.{_⟶_}
-use Rattle.ordering.proofs.Lengths.{Walk, step, coming-walk, walk-coming}
+use Rattle.ordering.specs.Walks.{Walk, step}
+use Rattle.ordering.proofs.Lengths.{coming-walk, walk-coming}
 use Rattle.ordering.proofs.FirstWalks.{next-sound, next-lowest}
 use Rattle.rings.specs.Searches.{Distances}
 use Rattle.rings.specs.Nexts.{Nexts, followed}

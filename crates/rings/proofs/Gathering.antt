@@ -12,10 +12,10 @@ use lib.Seq.{getD-set-same, getD-set-other}
 use borrow.Author.Tests.{eqb-true, eqb-false}
 use Rattle.model.specs.Limits.{maxItems, maxEdges}
 use Rattle.model.proofs.Laws.{decided}
-use Rattle.model.proofs.Lists.{_∈_}
 use Rattle.memory.specs.Tables.{Table}
 use Rattle.graph.specs.Edges.{edgeAt, edgesIn, sourceAt, targetAt}
-use Rattle.ordering.proofs.Edges.{_⟶_}
+use Rattle.model.specs.HappensBefore.{_⟶_}
+use Rattle.model.specs.Lists.{_∈_}
 use Rattle.ordering.proofs.WalkBack.{min-either}
 use Rattle.indexing.specs.Entries.{entryAt}
 use Rattle.indexing.proofs.Entries.{entry-is}

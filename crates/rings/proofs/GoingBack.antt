@@ -12,14 +12,14 @@ use lib.ListN.{getD, set, length-set}
 use lib.Seq.{getD-set-same, getD-set-other}
 use borrow.Author.Tests.{eqb-true, eqb-false}
 use Rattle.model.specs.Limits.{maxItems}
-use Rattle.model.specs.HappensBefore.{Edge}
+use Rattle.model.specs.HappensBefore.{Edge, _⟶_}
+use Rattle.model.specs.Lists.{_∈_}
 use Rattle.model.proofs.Laws.{decided}
-use Rattle.model.proofs.Lists.{_∈_, here, there}
+use Rattle.model.proofs.Lists.{here, there}
 use Rattle.memory.specs.Tables.{Table}
 use Rattle.chains.specs.Chains.{members, olderIn}
 use Rattle.chains.proofs.Chains.{no-members, members-first, older-lower}
 use Rattle.graph.specs.Edges.{sourceAt}
-use Rattle.ordering.proofs.Edges.{_⟶_}
 use Rattle.indexing.specs.Entries.{entryAt}
 use Rattle.rings.specs.declared.searches.Reached.{Reached}
 use Rattle.rings.specs.Searches.{Lists, among, State, Arrays, numbers, Ahead, Meets, fresh, again, known, Visits, passed, visited, Back}

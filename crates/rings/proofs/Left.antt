@@ -6,7 +6,7 @@ use mathlib.Core.List.{List}
 use lib.Dec.{eqb}
 use borrow.Author.Tests.{ne-eqb, eq-eqb}
 use Rattle.model.specs.HappensBefore.{Edge}
-use Rattle.model.proofs.Lists.{_∈_}
+use Rattle.model.specs.Lists.{_∈_}
 use Rattle.model.proofs.Selections.{select-keeps, select-within}
 use Rattle.indexing.specs.Entries.{entryAt}
 use Rattle.rings.specs.Searches.{among}

@@ -10,16 +10,15 @@ use lib.Dec.{eqb, leb}
 use lib.ListN.{length}
 use borrow.Author.Tests.{eqb-true, eqb-false, eq-eqb, ne-eqb, leb-true, leb-false}
 use Rattle.model.specs.Limits.{maxItems}
-use Rattle.model.specs.HappensBefore.{Edge}
+use Rattle.model.specs.HappensBefore.{Edge, _⟶_}
+use Rattle.model.specs.Lists.{_∈_}
 use Rattle.model.proofs.Laws.{decided}
-use Rattle.model.proofs.Lists.{_∈_}
 use Rattle.memory.specs.Tables.{Table}
 use Rattle.chains.specs.Chains.{members, olderIn}
 use Rattle.chains.proofs.Chains.{no-members, members-first}
 use Rattle.graph.specs.Edges.{sourceAt}
-use Rattle.ordering.proofs.Edges.{_⟶_}
-use Rattle.ordering.proofs.Lengths.{Walk}
-use Rattle.ordering.proofs.Passing.{Passes, passes-walk, turned, walk-more, rising-open}
+use Rattle.ordering.specs.Walks.{Walk, Passes}
+use Rattle.ordering.proofs.Passing.{passes-walk, turned, walk-more, rising-open}
 use Rattle.indexing.specs.Entries.{entryAt}
 use Rattle.rings.specs.declared.searches.Closing.{Closing}
 use Rattle.rings.specs.Searches.{Lists, Onward, Indexed, among, Beats, Better, Ready, Told, Searched}

@@ -8,12 +8,12 @@ use native.Mathlib.Nat.{min-le-left}
 use native.Mathlib.Omega.{arith}
 use lib.Dec.{eqb, ltb}
 use borrow.Author.Tests.{eqb-true, eqb-false, ltb-true, ltb-false}
-use Rattle.model.specs.HappensBefore.{Edge}
+use Rattle.model.specs.HappensBefore.{Edge, _⟶_}
+use Rattle.model.specs.Lists.{_∈_}
 use Rattle.model.proofs.Laws.{decided}
-use Rattle.model.proofs.Lists.{_∈_}
-use Rattle.ordering.proofs.Edges.{_⟶_}
-use Rattle.ordering.proofs.Lengths.{Walk, stay, step, walk-join}
-use Rattle.ordering.proofs.Passing.{Passes, passes-walk, passes-step}
+use Rattle.ordering.specs.Walks.{Walk, stay, step, Passes}
+use Rattle.ordering.proofs.Lengths.{walk-join}
+use Rattle.ordering.proofs.Passing.{passes-walk, passes-step}
 use Rattle.ordering.proofs.WalkBack.{min-either}
 use Rattle.rings.specs.Searches.{State}
 

@@ -12,15 +12,15 @@ use lib.Dec.{ltb}
 use borrow.Author.Tests.{ltb-true}
 use Rattle.model.specs.Limits.{maxItems, maxEdges}
 use Rattle.model.specs.Choice.{numbersFrom}
-use Rattle.model.specs.HappensBefore.{Edge}
+use Rattle.model.specs.HappensBefore.{Edge, _⟶_}
+use Rattle.model.specs.Lists.{_∈_}
 use Rattle.model.proofs.Laws.{and-true, true-and}
 use Rattle.model.proofs.Selections.{select-keeps, select-within}
-use Rattle.model.proofs.Lists.{_∈_, here, there, in-numbersFrom, numbersFrom-bounds}
+use Rattle.model.proofs.Lists.{here, there, in-numbersFrom, numbersFrom-bounds}
 use Rattle.memory.specs.Tables.{Table}
 use Rattle.chains.specs.Chains.{Pushed, members}
 use Rattle.chains.proofs.Chains.{no-members}
 use Rattle.graph.specs.Edges.{edgeAt, edgesIn, sourceAt, targetAt, among}
-use Rattle.ordering.proofs.Edges.{_⟶_}
 use Rattle.indexing.specs.Entries.{entryAt}
 use Rattle.indexing.specs.Indexed.{ListsBy}
 use Rattle.indexing.proofs.ByKey.{lists-none, lists-skipped, lists-noted, member-of, of-member}

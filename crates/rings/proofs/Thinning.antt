@@ -10,13 +10,15 @@ use lib.ListN.{length, getD, set, length-set}
 use borrow.Author.Tests.{eqb-true, eqb-false}
 use Rattle.model.specs.Limits.{maxItems}
 use Rattle.model.specs.HappensBefore.{Edge}
+use Rattle.model.specs.Lists.{_∈_}
 use Rattle.model.proofs.Laws.{decided}
-use Rattle.model.proofs.Lists.{_∈_, there}
+use Rattle.model.proofs.Lists.{there}
 use Rattle.memory.specs.Tables.{Table}
 use Rattle.chains.specs.Chains.{members, olderIn}
 use Rattle.chains.proofs.Chains.{no-members, members-first}
 use Rattle.graph.specs.Edges.{targetAt}
-use Rattle.ordering.proofs.Passing.{Passes, passes-walk, turned, passes-or-not, goes-on, walk-more}
+use Rattle.ordering.specs.Walks.{Passes}
+use Rattle.ordering.proofs.Passing.{passes-walk, turned, passes-or-not, goes-on, walk-more}
 use Rattle.indexing.specs.Entries.{entryAt}
 use Rattle.indexing.proofs.Entries.{entry-is, entry-set, entry-other}
 use Rattle.rings.specs.Searches.{Onward, among}

@@ -12,13 +12,14 @@ use Rattle.model.specs.Limits.{maxItems, maxEdges}
 use Rattle.model.specs.Choice.{select, numbersFrom}
 use Rattle.model.specs.HappensBefore.{Edge}
 use Rattle.model.specs.Rings.{firstWalk, ring}
+use Rattle.model.specs.Lists.{_∈_, Rising}
 use Rattle.model.proofs.Laws.{decided}
 use Rattle.model.proofs.Selections.{select-all, select-yes, select-no, select-keeps, select-within}
-use Rattle.model.proofs.Lists.{_∈_, at-position, Rising, in-numbersFrom, numbersFrom-length, numbersFrom-rising}
+use Rattle.model.proofs.Lists.{at-position, in-numbersFrom, numbersFrom-length, numbersFrom-rising}
 use Rattle.memory.specs.Tables.{Table}
 use Rattle.graph.specs.Edges.{among as among-groups, edgesIn, groupsIn, graphIn}
 use Rattle.graph.proofs.Edges.{selected-among, groups-bound}
-use Rattle.ordering.proofs.Lengths.{Walk, stay, step}
+use Rattle.ordering.specs.Walks.{Walk, stay, step}
 use Rattle.ordering.proofs.Passing.{passes-walk}
 use Rattle.ordering.proofs.Closest.{Closest}
 use Rattle.ordering.proofs.Found.{ring-closest, ring-nowhere}

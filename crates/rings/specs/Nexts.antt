@@ -4,9 +4,8 @@ use mathlib.Core.Path.{_≡_}
 use mathlib.Core.Bool.{Bool, true, false}
 use mathlib.Core.List.{List, [], _∷_}
 use Rattle.model.specs.Limits.{maxItems}
-use Rattle.model.specs.HappensBefore.{Edge}
-use Rattle.model.proofs.Lists.{_∈_}
-use Rattle.ordering.proofs.Edges.{_⟶_}
+use Rattle.model.specs.HappensBefore.{Edge, _⟶_}
+use Rattle.model.specs.Lists.{_∈_}
 use Rattle.indexing.specs.Entries.{entryAt}
 
 -- h was met, and lies one arrow nearer than x.

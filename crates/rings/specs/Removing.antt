@@ -6,12 +6,11 @@ use mathlib.Core.Logic.{_⊎_}
 use lib.ListN.{length}
 use Rattle.model.specs.Limits.{maxItems}
 use Rattle.model.specs.HappensBefore.{Edge}
-use Rattle.model.proofs.Lists.{_∈_}
+use Rattle.model.specs.Lists.{_∈_}
 use Rattle.memory.specs.Tables.{Table}
 use Rattle.chains.specs.Chains.{members}
 use Rattle.graph.specs.Edges.{targetAt}
-use Rattle.ordering.proofs.Lengths.{Walk}
-use Rattle.ordering.proofs.Passing.{Passes}
+use Rattle.ordering.specs.Walks.{Walk, Passes}
 use Rattle.indexing.specs.Entries.{entryAt}
 use Rattle.rings.specs.Searches.{Onward, among}
 

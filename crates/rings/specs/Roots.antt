@@ -7,11 +7,10 @@ use lib.Dec.{eqb}
 use lib.ListN.{length}
 use Rattle.model.specs.Limits.{maxItems}
 use Rattle.model.specs.Choice.{when}
-use Rattle.model.specs.HappensBefore.{Edge}
-use Rattle.model.proofs.Lists.{_∈_}
+use Rattle.model.specs.HappensBefore.{Edge, _⟶_}
+use Rattle.model.specs.Lists.{_∈_}
 use Rattle.memory.specs.Tables.{Table}
-use Rattle.ordering.proofs.Edges.{_⟶_}
-use Rattle.ordering.proofs.Lengths.{Walk}
+use Rattle.ordering.specs.Walks.{Walk}
 use Rattle.rings.specs.declared.searches.Closing.{Closing}
 use Rattle.rings.specs.Searches.{Lists, Indexed, Beats}
 

@@ -9,15 +9,13 @@ use lib.Dec.{eqb}
 use lib.ListN.{length, getD, set, replicate}
 use Rattle.model.specs.Limits.{maxItems, maxEdges}
 use Rattle.model.specs.Choice.{select}
-use Rattle.model.specs.HappensBefore.{Edge}
-use Rattle.model.proofs.Lists.{_∈_}
+use Rattle.model.specs.HappensBefore.{Edge, _⟶_}
+use Rattle.model.specs.Lists.{_∈_}
 use Rattle.memory.specs.Tables.{Table}
 use Rattle.chains.specs.Chains.{members}
 use Rattle.graph.specs.Edges.{sourceAt, targetAt}
 use Rattle.indexing.specs.Entries.{entryAt}
-use Rattle.ordering.proofs.Edges.{_⟶_}
-use Rattle.ordering.proofs.Lengths.{Walk}
-use Rattle.ordering.proofs.Passing.{Passes}
+use Rattle.ordering.specs.Walks.{Walk, Passes}
 use Rattle.rings.specs.declared.searches.Closing.{Closing}
 use Rattle.rings.specs.declared.searches.Reached.{Reached}
 

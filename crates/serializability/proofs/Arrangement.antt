@@ -14,8 +14,8 @@ use Rattle.model.specs.Choice.{select}
 use Rattle.model.specs.Replay.{Event}
 use Rattle.model.specs.HappensBefore.{At}
 use Rattle.model.specs.Checks.{inGroup, arranged}
+use Rattle.model.specs.Lists.{Precedes}
 use Rattle.model.proofs.Selections.{select-append, select-commute, select-from, Selected, select-all, selected-rises, passing-first}
-use Rattle.model.proofs.Lists.{Precedes}
 use Rattle.serializability.specs.Orders.{Dependent, Forward}
 
 -- The events outside a group.

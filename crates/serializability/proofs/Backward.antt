@@ -19,14 +19,15 @@ use Rattle.model.specs.Programs.{Program}
 use Rattle.model.specs.Machine.{Start}
 use Rattle.model.specs.Replay.{Event, Replayed}
 use Rattle.model.specs.HappensBefore.{At, isCommand, rankOf, sameSequence, ProgramOrder, Conflict, HappensBefore}
-use Rattle.model.specs.Traces.{Precedes, SameTrace, transfersTogether, commandOf}
+use Rattle.model.specs.Traces.{SameTrace, transfersTogether, commandOf}
 use Rattle.model.specs.Checks.{inGroup}
+use Rattle.model.specs.Lists.{Precedes}
 use Rattle.model.proofs.Selections.{select-at, select-from}
 use Rattle.model.proofs.Laws.{and-true, true-and}
 use Rattle.record_facts.specs.Facts.{Facts}
 use Rattle.serializability.proofs.Identity.{identified-sym, compared, commander, command-unique, at-unique, place-rises}
 use Rattle.serializability.proofs.Correspondence.{counterpart, twins, same-groups}
-use Rattle.serializability.proofs.CommandKinds.{Twins, twin-command}
+use Rattle.serializability.proofs.CommandKinds.{Twins, first-in, second-in, twin-command}
 use Rattle.serializability.proofs.Blocks.{groups-rise}
 use Rattle.ordering.proofs.Links.{sequence-parts}
 
@@ -159,7 +160,6 @@ module _ {P : Program} {start start′ : Start} {items items′ : List Item} {ru
           let v = twin (n .i) x (n .first) in
           let w = twin (n .j) y (n .second) in
           let kept =
-          trace .order x y (v .y) (w .y) (n .i, n .first) (n .j, n .second) (v .j, v .second) (w .j, w .second) (v .same) (w .same)
-          (c .conflicting) in
+          trace .order x y (v .y) (w .y) (first-in v) (first-in w) (second-in v) (second-in w) (v .same) (w .same) (c .conflicting) in
           rising (n .i) (n .j) (n .first) (n .second)
           (kept .0 (record { i = n .i; j = n .j; first = n .first; second = n .second; before = n .before }))

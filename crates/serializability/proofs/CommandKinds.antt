@@ -16,6 +16,8 @@ use Rattle.model.specs.Machine.{Start}
 use Rattle.model.specs.Replay.{Event, Replayed}
 use Rattle.model.specs.HappensBefore.{At, isCommand, rankOf}
 use Rattle.model.specs.Traces.{transitionsOf, Identified, commandOf}
+use Rattle.model.specs.Lists.{_∈_}
+use Rattle.model.proofs.Lists.{at-position}
 use Rattle.model.proofs.Selections.{select-yes, select-no, select-at, select-take}
 use Rattle.model.proofs.ItemKinds.{sameKind-true, command-part}
 use Rattle.model.proofs.Laws.{decided, and-true, true-and}
@@ -123,6 +125,13 @@ pub record Twins (events others : List Event) : Type 0 where
   pub first : At events i x
   pub second : At others j y
   pub same : Identified x y
+
+-- Each stands in its run.
+pub first-in : {events others : List Event} (w : Twins events others) → w .x ∈ events
+first-in w = at-position _ (w .i) (w .first)
+
+pub second-in : {events others : List Event} (w : Twins events others) → w .y ∈ others
+second-in w = at-position _ (w .j) (w .second)
 
 -- If one is a command, the other is.
 pub twin-command : {events others : List Event} (w : Twins events others) → isCommand (w .x) ≡ true → isCommand (w .y) ≡ true

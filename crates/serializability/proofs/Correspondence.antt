@@ -19,6 +19,8 @@ use Rattle.model.specs.Machine.{Start}
 use Rattle.model.specs.Replay.{Event, Replayed}
 use Rattle.model.specs.HappensBefore.{At, isCommand, rankOf}
 use Rattle.model.specs.Traces.{transitionsOf, Identified, commandOf}
+use Rattle.model.specs.Lists.{_∈_}
+use Rattle.model.proofs.Lists.{at-position}
 use Rattle.model.proofs.Selections.{select-from, Selected}
 use Rattle.model.proofs.ItemKinds.{transfer-command, command-part}
 use Rattle.model.proofs.Laws.{and-true}
@@ -39,6 +41,9 @@ pub record Counterpart (others : List Event) (x : Event) : Type 0 where
   pub y : Event
   pub at : At others j y
   pub same : Identified x y
+
+pub counterpart-in : {others : List Event} {x : Event} (c : Counterpart others x) → c .y ∈ others
+counterpart-in c = at-position _ (c .j) (c .at)
 
 -- An event and its counterpart.
 abbrev pub twins : {events others : List Event} (i : ℕ) (x : Event) → At events i x → Counterpart others x → Twins events others

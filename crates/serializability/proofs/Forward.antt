@@ -18,8 +18,10 @@ use Rattle.model.specs.Programs.{Program}
 use Rattle.model.specs.Machine.{State, Start, initial, address}
 use Rattle.model.specs.Replay.{Event, Origin, Replayed, begin, every, quiet, atEnd, replay}
 use Rattle.model.specs.HappensBefore.{At, conflict}
-use Rattle.model.specs.Traces.{transitionsOf, Identified, Precedes, _∈_, cellOf, valueAt, SameTrace, SameValues, InRecord, SerialRun}
+use Rattle.model.specs.Traces.{transitionsOf, Identified, cellOf, valueAt, SameTrace, SameValues, InRecord, SerialRun}
 use Rattle.model.specs.Checks.{orderItems, arranged}
+use Rattle.model.specs.Lists.{Precedes, _∈_}
+use Rattle.model.proofs.Lists.{position, at-position}
 use Rattle.record_facts.specs.Facts.{Facts, countOf, cellsAfter}
 use Rattle.serializability.specs.Orders.{Forward}
 use Rattle.serializability.specs.Claim.{Serialization}
@@ -27,7 +29,7 @@ use Rattle.serializability.proofs.Arrangement.{arranged-member}
 use Rattle.serializability.proofs.Projections.{touches-own, Projected, projected-sym, arranged-projected, same-transitions, same-place, same-contents, same-end, same-order}
 use Rattle.serializability.proofs.Groups.{each-at, at-map}
 use Rattle.serializability.proofs.Identity.{identified-sym, identified-trans, identity-unique, at-unique}
-use Rattle.serializability.proofs.Correspondence.{counterpart}
+use Rattle.serializability.proofs.Correspondence.{counterpart, counterpart-in}
 use Rattle.serializability.proofs.Alike.{Alike, alike-at, alike-from, alike-transitions, alike-identity}
 use Rattle.serializability.proofs.Standing.{noRequests, noDeliveries, standing, replay-equal}
 use Rattle.serializability.proofs.Simulation.{Schedule, Grouped, no-group, one-group, Simulated, simulate}
@@ -142,6 +144,9 @@ module _ {P : Program} {start : Start} {items : List Item} {run : Replayed} (f :
       let one : z .0 ≡ x = at-unique f (m .1) ax (identity-unique f (m .0) i (m .1) ax id) in
       record { at = subst (At serialized n) one (z .1); alike = subst (λ e. Alike e y) one (z .2) }
 
+  original-in : (x y : Event) → x ∈ run .events → (my : y ∈ serial-run .events) → Identified x y → Original (position my .0) x y
+  original-in x y mx my same = original x y (position mx .0) (position my .0) (position mx .1) (position my .1) same
+
   -- The trace: each rank's transitions, the cells, and the order of conflicts.
   serial-transitions : (rank : ℕ) → transitionsOf rank (run .events) ≡ transitionsOf rank (serial-run .events)
   unfolding serial-run
@@ -158,23 +163,29 @@ module _ {P : Program} {start : Start} {items : List Item} {run : Replayed} (f :
     conflicts-kept : (x x′ y y′ : Event) → x ∈ run .events → x′ ∈ run .events → y ∈ serial-run .events → y′ ∈ serial-run .events →
         Identified x y → Identified x′ y′ → conflict (x .access) (x′ .access) ≡ true →
         (Precedes (run .events) x x′ ↔ Precedes (serial-run .events) y y′)
-    conflicts-kept x x′ y y′ (i, ax) (i′, ax′) (n, ay) (n′, ay′) id id′ c = (
-      (λ p.
-          let q = same-order (projected-sym projected) x x′ c p in
-          let at-n = placed-at x y n (q .i) ay (q .first) id in
-          let at-n′ = placed-at x′ y′ n′ (q .j) ay′ (q .second) id′ in
-          record { i = n; j = n′; first = ay; second = ay′; before = omega (arith, q .before, at-n, at-n′) }),
-      (λ p.
-          let o = original x y i (p .i) ax (p .first) id in
-          let o′ = original x′ y′ i′ (p .j) ax′ (p .second) id′ in
-          same-order projected x x′ c (record { i = p .i; j = p .j; first = o .at; second = o′ .at; before = p .before })),
-    )
+    conflicts-kept x x′ y y′ mx mx′ my my′ id id′ c =
+        let (i, ax) = position mx in
+        let (i′, ax′) = position mx′ in
+        let (n, ay) = position my in
+        let (n′, ay′) = position my′ in (
+          (λ p.
+              let q = same-order (projected-sym projected) x x′ c p in
+              let at-n = placed-at x y n (q .i) ay (q .first) id in
+              let at-n′ = placed-at x′ y′ n′ (q .j) ay′ (q .second) id′ in
+              record { i = n; j = n′; first = ay; second = ay′; before = omega (arith, q .before, at-n, at-n′) }),
+          (λ p.
+              let o = original x y i (p .i) ax (p .first) id in
+              let o′ = original x′ y′ i′ (p .j) ax′ (p .second) id′ in
+              same-order projected x x′ c (record { i = p .i; j = p .j; first = o .at; second = o′ .at; before = p .before })),
+        )
 
     pub same-trace : SameTrace (run .events) (serial-run .events)
     same-trace =
         record {
           transitions = serial-transitions;
-          cells = λ x y (i, ax) (n, ay) same. let o = original x y i n ax ay same in cell-alike x y (o .alike .access);
+          cells = λ x y mx my same.
+              let o = original-in x y mx my same in
+              cell-alike x y (o .alike .access);
           order = conflicts-kept;
         }
       where
@@ -182,7 +193,7 @@ module _ {P : Program} {start : Start} {items : List Item} {run : Replayed} (f :
         cell-alike x y h = rw (h, cellOf)
 
   pub same-values : SameValues (run .events) (serial-run .events)
-  same-values x y (i, ax) (n, ay) same = let o = original x y i n ax ay same in value-alike x y (o .alike .access)
+  same-values x y mx my same = let o = original-in x y mx my same in value-alike x y (o .alike .access)
     where
       value-alike : (u v : Event) → u .access ≡ v .access → valueAt u ≡ valueAt v
       value-alike u v h = rw (h, valueAt)
@@ -211,15 +222,18 @@ module _ {P : Program} {start : Start} {items : List Item} {run : Replayed} (f :
   -- Each event has its counterpart, both ways.
   has-counterpart : Facts P start (orderItems groups (run .events)) serial-run → (x : Event) → x ∈ run .events →
       (y : Event) × (y ∈ serial-run .events) × Identified x y
-  has-counterpart f′ x (i, ax) =
+  has-counterpart f′ x mx =
+      let (i, ax) = position mx in
       let c = counterpart f f′ serial-transitions i x ax in
-      (c .y, (c .j, c .at), c .same)
+      (c .y, counterpart-in c, c .same)
 
   has-original : (y : Event) → y ∈ serial-run .events → (x : Event) × (x ∈ run .events) × Identified x y
   unfolding serial-run
-  has-original y (n, ay) =
+  has-original y my =
+      let (n, ay) = position my in
       let z = alike-from (simulated .alike) n y ay in
-      (z .0, from-record n (z .0) (z .1), alike-identity (z .2))
+      let m = from-record n (z .0) (z .1) in
+      (z .0, at-position (run .events) (m .0) (m .1), alike-identity (z .2))
 
   -- The order's items are a serialization of the record.
   pub forward : Each (InRecord (P .header)) items → Facts P start (orderItems groups (run .events)) serial-run →

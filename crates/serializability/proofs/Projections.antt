@@ -15,8 +15,9 @@ use Rattle.model.specs.Choice.{select}
 use Rattle.model.specs.Machine.{Access, Start, address}
 use Rattle.model.specs.Replay.{Event, sameAddress}
 use Rattle.model.specs.HappensBefore.{At, isCommand, rankOf, sameSequence, conflict, eitherWrites}
-use Rattle.model.specs.Traces.{transitionsOf, Precedes, commandOf}
+use Rattle.model.specs.Traces.{transitionsOf, commandOf}
 use Rattle.model.specs.Checks.{inGroup, arranged}
+use Rattle.model.specs.Lists.{Precedes}
 use Rattle.model.proofs.Selections.{select-before, select-order}
 use Rattle.model.proofs.Replay.{sameAddress-true, true-sameAddress}
 use Rattle.model.proofs.Laws.{decided, and-true, true-and, or-true}

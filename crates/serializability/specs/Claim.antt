@@ -8,8 +8,9 @@ use Rattle.model.specs.Programs.{Program}
 use Rattle.model.specs.Machine.{Start}
 use Rattle.model.specs.Replay.{Event, Replayed}
 use Rattle.model.specs.Orders.{ordered, cyclic}
-use Rattle.model.specs.Traces.{Identified, _∈_, SameTrace, SameValues, SerialRun}
+use Rattle.model.specs.Traces.{Identified, SameTrace, SameValues, SerialRun}
 use Rattle.model.specs.Checks.{verdictOn, orderItems}
+use Rattle.model.specs.Lists.{_∈_}
 
 -- The items are a serial run with the record's trace, the record's value at each access, and the same last contents of all cells and registers.
 pub record Serialization (P : Program) (start : Start) (run : Replayed) (items : List Item) (run′ : Replayed) : Type 0 where

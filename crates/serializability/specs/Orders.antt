@@ -8,7 +8,7 @@ use mathlib.Core.Option.{some}
 use lib.ListN.{getElem?}
 use Rattle.model.specs.Replay.{Event}
 use Rattle.model.specs.HappensBefore.{At, sameSequence, conflict}
-use Rattle.model.proofs.Lists.{Precedes}
+use Rattle.model.specs.Lists.{Precedes}
 
 -- Two events whose order matters: conflicting accesses, or two commands of one rank.
 abbrev pub Dependent : Event → Event → Type 0

@@ -19,9 +19,10 @@ use Rattle.model.specs.HappensBefore.{At, rankOf}
 use Rattle.model.specs.Checks.{forEachRank, rankByRank}
 use Rattle.model.specs.Listings.{decimal, line, lineFeed, space, groupWord, cellWord, refusedWord, kindWord, verdictWord}
 use Rattle.model.specs.Listings.{groupLine, groupLines, cellLine, join, refusedLine}
+use Rattle.model.specs.Lists.{_∈_}
 use Rattle.model.proofs.Laws.{decided}
 use Rattle.model.proofs.Listings.{decimal-short, kind-short}
-use Rattle.model.proofs.Lists.{_∈_, here, there}
+use Rattle.model.proofs.Lists.{here, there}
 use Rattle.sizes.specs.Sizes.{maxVerdictLine, maxGroupLine, maxCellLine}
 use Rattle.sizes.proofs.Refusals.{RefusalFits}
 

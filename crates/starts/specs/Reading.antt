@@ -11,8 +11,7 @@ use Rattle.model.specs.declared.Refusal.{Refusal}
 use Rattle.model.specs.Refusals.{Result, ok, refused, memoryTooShort}
 use Rattle.model.specs.Choice.{when}
 use Rattle.memory.specs.Tables.{Table}
-use Rattle.lists.specs.Written.{cellsListed}
-use Rattle.lists.proofs.Room.{CellsFit}
+use Rattle.lists.specs.Written.{cellsListed, CellsFit}
 use Rattle.starts.specs.declared.reader.Reading.{Reading}
 
 -- 15, with the length needed.

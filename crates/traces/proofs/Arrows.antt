@@ -15,13 +15,15 @@ use Rattle.model.specs.Machine.{Start}
 use Rattle.model.specs.Replay.{Event, Replayed}
 use Rattle.model.specs.HappensBefore.{At, isCommand, rankOf, sameSequence, overwrites, conflict, ProgramOrder, Conflict, HappensBefore, edgesOf}
 use Rattle.model.specs.Traces.{SameTrace}
+use Rattle.model.specs.Lists.{_∈_, Distinct}
 use Rattle.model.proofs.Laws.{decided}
-use Rattle.model.proofs.Lists.{_∈_, Distinct, numbersFrom-length, pigeonhole}
+use Rattle.model.proofs.Lists.{numbersFrom-length, pigeonhole}
 use Rattle.ordering.proofs.Edges.{edges-agree}
 use Rattle.ordering.proofs.Links.{sequence-parts, sequence-of, write-splits}
-use Rattle.ordering.proofs.Walks.{Along, Closed}
+use Rattle.ordering.specs.Walks.{Along, Closed}
 use Rattle.ordering.proofs.Runs.{reason-follows}
-use Rattle.ordering.proofs.Orders.{ShortestRing, cycle-closed}
+use Rattle.ordering.specs.Orders.{ShortestRing}
+use Rattle.ordering.proofs.Orders.{cycle-closed}
 use Rattle.record_facts.specs.Facts.{Facts, Local, Shape, single, transfer, row}
 use Rattle.serializability.proofs.Identity.{identified-sym, from-group, place-rises, place-order}
 use Rattle.serializability.proofs.CommandKinds.{Twins, twin-command}

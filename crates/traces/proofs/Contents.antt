@@ -20,6 +20,7 @@ use Rattle.model.specs.Machine.{Start, Access, address}
 use Rattle.model.specs.Replay.{Event, Replayed, sameAddress, accessOf}
 use Rattle.model.specs.HappensBefore.{At, isCommand, rankOf, conflict}
 use Rattle.model.specs.Traces.{cellOf, valueAt, SameTrace, SameValues, commandOf}
+use Rattle.model.proofs.Lists.{position}
 use Rattle.model.proofs.Laws.{decided, and-true, getElem?-bound}
 use Rattle.model.proofs.Replay.{sameAddress-true, true-sameAddress}
 use Rattle.record_facts.specs.Facts.{Facts, Local, countOf, cellsAfter}
@@ -194,7 +195,7 @@ module _ {P : Program} {start : Start} {run run′ : Replayed} (a : RecordedRun 
   values-before (suc n) w less = same-value w (λ v before. values-before n v (omega (arith, before, less)))
 
   pub same-values : SameValues (run .events) (run′ .events)
-  same-values x y mx my same = values-before (suc (mx .0)) (pair a a′ trace mx my same) (omega arith)
+  same-values x y mx my same = values-before (suc (position mx .0)) (pair a a′ trace mx my same) (omega arith)
 
   -- The last cells.
   pub same-cells : (rank cell : ℕ) → run .last .machine .cells rank cell ≡ run′ .last .machine .cells rank cell

@@ -4,9 +4,11 @@ use mathlib.Core.Path.{_≡_, refl, sym, _∙_, ap, subst₂}
 use Rattle.model.specs.Programs.{Program}
 use Rattle.model.specs.Machine.{Start}
 use Rattle.model.specs.Replay.{Event, Replayed}
-use Rattle.model.specs.Traces.{Identified, Precedes, _∈_, cellOf, SameTrace}
+use Rattle.model.specs.Traces.{Identified, cellOf, SameTrace}
+use Rattle.model.specs.Lists.{Precedes, _∈_}
+use Rattle.model.proofs.Lists.{position}
 use Rattle.serializability.proofs.Identity.{identified-sym, identified-trans, identity-unique, at-unique}
-use Rattle.serializability.proofs.Correspondence.{Counterpart, counterpart}
+use Rattle.serializability.proofs.Correspondence.{Counterpart, counterpart, counterpart-in}
 use Rattle.traces.specs.Claims.{RecordedRun}
 use Rattle.traces.proofs.Accesses.{conflict-same}
 use Rattle.traces.proofs.Pairs.{facts-of, pair, pair-alike}
@@ -23,7 +25,10 @@ same-trace-refl {run = run} a =
     }
   where
     one : {x y : Event} → x ∈ run .events → y ∈ run .events → Identified x y → x ≡ y
-    one (i, ax) (j, ay) same = at-unique (facts-of a) ax ay (identity-unique (facts-of a) i j ax ay same)
+    one mx my same =
+        let (i, ax) = position mx in
+        let (j, ay) = position my in
+        at-unique (facts-of a) ax ay (identity-unique (facts-of a) i j ax ay same)
 
 pub same-trace-sym : {P : Program} {start start′ : Start} {run run′ : Replayed} → RecordedRun P start run → RecordedRun P start′ run′ →
     SameTrace (run .events) (run′ .events) → SameTrace (run′ .events) (run .events)
@@ -48,18 +53,18 @@ same-trace-trans {run = run} {run′ = run′} a a′ a″ t t′ =
       transitions = λ rank. t .transitions rank ∙ t′ .transitions rank;
       cells = λ x z mx mz same.
           let c = through x mx in
-          t .cells x (c .y) mx (c .j, c .at) (c .same) ∙
-          t′ .cells (c .y) z (c .j, c .at) mz (identified-trans (identified-sym (c .same)) same);
+          t .cells x (c .y) mx (counterpart-in c) (c .same) ∙
+          t′ .cells (c .y) z (counterpart-in c) mz (identified-trans (identified-sym (c .same)) same);
       order = λ x x′ z z′ mx mx′ mz mz′ same same′ conflicts.
           let c = through x mx in
           let c′ = through x′ mx′ in
-          let first = t .order x x′ (c .y) (c′ .y) mx mx′ (c .j, c .at) (c′ .j, c′ .at) (c .same) (c′ .same) conflicts in
-          let second = t′ .order (c .y) (c′ .y) z z′ (c .j, c .at) (c′ .j, c′ .at) mz mz′
+          let first = t .order x x′ (c .y) (c′ .y) mx mx′ (counterpart-in c) (counterpart-in c′) (c .same) (c′ .same) conflicts in
+          let second = t′ .order (c .y) (c′ .y) z z′ (counterpart-in c) (counterpart-in c′) mz mz′
           (identified-trans (identified-sym (c .same)) same) (identified-trans (identified-sym (c′ .same)) same′)
-          (sym (conflict-same (pair-alike a a′ t (pair a a′ t mx (c .j, c .at) (c .same))) (pair-alike a a′ t (pair a a′ t mx′ (c′ .j, c′ .at) (c′ .same)))) ∙
+          (sym (conflict-same (pair-alike a a′ t (pair a a′ t mx (counterpart-in c) (c .same))) (pair-alike a a′ t (pair a a′ t mx′ (counterpart-in c′) (c′ .same)))) ∙
           conflicts) in
           ((λ p. second .0 (first .0 p)), (λ p. first .1 (second .1 p)));
     }
   where
     through : (x : Event) → x ∈ run .events → Counterpart (run′ .events) x
-    through x (i, ax) = counterpart (facts-of a) (facts-of a′) (t .transitions) i x ax
+    through x mx = let (i, ax) = position mx in counterpart (facts-of a) (facts-of a′) (t .transitions) i x ax

@@ -10,12 +10,14 @@ use Rattle.model.specs.Programs.{Program}
 use Rattle.model.specs.Machine.{Start}
 use Rattle.model.specs.Replay.{Event, Replayed}
 use Rattle.model.specs.HappensBefore.{At, conflict}
-use Rattle.model.specs.Traces.{Identified, Precedes, _∈_, cellOf, SameTrace}
+use Rattle.model.specs.Traces.{Identified, cellOf, SameTrace}
+use Rattle.model.specs.Lists.{Precedes, _∈_}
+use Rattle.model.proofs.Lists.{position}
 use Rattle.model.proofs.ItemKinds.{fetch-kind, delivery-kind}
 use Rattle.record_facts.specs.Facts.{Facts}
 use Rattle.record_facts.proofs.FactsHold.{facts}
 use Rattle.serializability.proofs.Identity.{identified-sym, identity-unique}
-use Rattle.serializability.proofs.CommandKinds.{Twins, same-kinds}
+use Rattle.serializability.proofs.CommandKinds.{Twins, first-in, second-in, same-kinds}
 use Rattle.serializability.proofs.Correspondence.{Counterpart, counterpart, twins}
 use Rattle.traces.specs.Claims.{RecordedRun, writesKind}
 use Rattle.traces.proofs.Accesses.{WritesAs, kind-writes, WriteAlike, write-alike}
@@ -41,7 +43,8 @@ module _ {P : Program} {start start′ : Start} {run run′ : Replayed} (a : Rec
   Pair = Twins (run .events) (run′ .events)
 
   abbrev pub pair : {x y : Event} → x ∈ run .events → y ∈ run′ .events → Identified x y → Pair
-  pair {x} {y} (i, ax) (j, ay) same = record { i = i; j = j; x = x; y = y; first = ax; second = ay; same = same }
+  pair {x} {y} mx my same =
+      record { i = position mx .0; j = position my .0; x = x; y = y; first = position mx .1; second = position my .1; same = same }
 
   abbrev pub paired : (i : ℕ) (x : Event) → At (run .events) i x → Pair
   paired i x ax = twins i x ax (counterpart (facts-of a) (facts-of a′) (trace .transitions) i x ax)
@@ -61,7 +64,7 @@ module _ {P : Program} {start start′ : Start} {run run′ : Replayed} (a : Rec
       go delivery is = delivery-kind (w .x .item .kind) is ∙ sym (delivery-kind (w .y .item .kind) (sym (w .same .part) ∙ is))
 
   pub pair-cells : (w : Pair) → cellOf (w .x) ≡ cellOf (w .y)
-  pair-cells w = trace .cells (w .x) (w .y) (w .i, w .first) (w .j, w .second) (w .same)
+  pair-cells w = trace .cells (w .x) (w .y) (first-in w) (second-in w) (w .same)
 
   -- So both write, or neither does: they are alike, as far as conflicts go.
   first-writes : (w : Pair) → WritesAs (writesKind (w .x .item .kind)) (w .x .access)
@@ -76,7 +79,7 @@ module _ {P : Program} {start start′ : Start} {run run′ : Replayed} (a : Rec
   -- Pairs that conflict stand the same way round in both.
   pub pair-order : (v w : Pair) → conflict (v .x .access) (w .x .access) ≡ true → (v .i < w .i) ↔ (v .j < w .j)
   pair-order v w c =
-      let o = trace .order (v .x) (w .x) (v .y) (w .y) (v .i, v .first) (w .i, w .first) (v .j, v .second) (w .j, w .second) (v .same) (w .same) c in (
+      let o = trace .order (v .x) (w .x) (v .y) (w .y) (first-in v) (first-in w) (second-in v) (second-in w) (v .same) (w .same) c in (
         (λ less. at-places a′ (v .j) (w .j) (v .second) (w .second)
             (o .0 (record { i = v .i; j = w .i; first = v .first; second = w .first; before = less }))),
         (λ less. at-places a (v .i) (w .i) (v .first) (w .first)

@@ -15,7 +15,9 @@ use Rattle.model.specs.Programs.{Program}
 use Rattle.model.specs.Machine.{Start}
 use Rattle.model.specs.Replay.{Event, Replayed}
 use Rattle.model.specs.HappensBefore.{At, isCommand, rankOf, conflict}
-use Rattle.model.specs.Traces.{transitionsOf, commandOf, Identified, Precedes, _∈_, SameTrace}
+use Rattle.model.specs.Traces.{transitionsOf, commandOf, Identified, SameTrace}
+use Rattle.model.specs.Lists.{Precedes, _∈_}
+use Rattle.model.proofs.Lists.{position}
 use Rattle.model.proofs.Laws.{decided, and-true}
 use Rattle.serializability.proofs.Alike.{Alike, AllAlike, alike-refl, alike-sym, all-alike-sym, alike-at, alike-transitions, alike-identity}
 use Rattle.serializability.proofs.Identity.{identified-sym, identified-trans, identity-unique, at-unique}
@@ -111,13 +113,17 @@ module _ {P : Program} {start : Start} {xs : List Event} {run : Replayed} (a : R
       identity-unique (facts-of a) (l .j) j (l .at) ay (identified-trans (identified-sym (alike-identity (l .like))) same)
 
   same-access : {x y : Event} → x ∈ xs → y ∈ run .events → Identified x y → x .access ≡ y .access
-  same-access {x} (i, ax) (j, ay) same =
+  same-access {x} mx my same =
+      let (i, ax) = position mx in
+      let (j, ay) = position my in
       let l = find t i x ax in
       l .like .access ∙ ap (λ e. e .access) (at-unique (facts-of a) (l .at) ay (like-is i j ax ay same))
 
   order-kept : {x x′ y y′ : Event} → y ∈ run .events → y′ ∈ run .events → Identified x y → Identified x′ y′ →
       conflict (x .access) (x′ .access) ≡ true → Precedes xs x x′ → Precedes (run .events) y y′
-  order-kept {x} {x′} (j, ay) (j′, ay′) same same′ c p =
+  order-kept {x} {x′} my my′ same same′ c p =
+      let (j, ay) = position my in
+      let (j′, ay′) = position my′ in
       let before = kept t (p .i) (p .j) x x′ (p .first) (p .second) (p .before) c in
       record {
         i = j;

@@ -11,7 +11,8 @@ use Rattle.model.specs.HappensBefore.{edgesOf}
 use Rattle.model.specs.Orders.{Verdict, ordered, cyclic}
 use Rattle.model.specs.Traces.{SameTrace}
 use Rattle.model.specs.Checks.{verdictOn}
-use Rattle.ordering.proofs.Orders.{TopologicalOrder, ShortestRing, order-acyclic, cycle-closed}
+use Rattle.ordering.specs.Orders.{TopologicalOrder, ShortestRing}
+use Rattle.ordering.proofs.Orders.{order-acyclic, cycle-closed}
 use Rattle.ordering.proofs.Runs.{run-order, run-ring}
 use Rattle.traces.specs.Claims.{RecordedRun, SameKind, orders, rings}
 use Rattle.traces.proofs.Pairs.{facts-of}
