@@ -21,8 +21,8 @@ textOf v recorded header trail items cells =
     join (textLines (isCyclic v) (groupList (listed v)) (length (listed v)) recorded header (firstItems header recorded trail items) cells)
 
 -- Where the lent bytes have no room for a text of this length: "15 with its length".
-abbrev pub tooShort : (length : ℕ) → Listed
-tooShort length = record { answer = Refused (record { number = memoryTooShort; place = length }); length = 0 }
+abbrev pub tooShort : (needed : ℕ) → Listed
+tooShort needed = record { answer = Refused (record { number = memoryTooShort; place = needed }); length = 0 }
 
 -- An answer, with what the lent bytes hold then.
 abbrev pub printing : Listed → (memory : List ℕ) → Listing

@@ -31,9 +31,9 @@ predecessor g [] = none
 predecessor g (e ∷ edges) = when (eqb (e .to) g) (λ _. some (lower (e .from) (predecessor g edges))) (λ _. predecessor g edges)
 
 -- The list up to its first g, that one included.
-unfoldable pub upTo : ℕ → List ℕ → List ℕ
-upTo g [] = []
-upTo g (h ∷ walk) = when (eqb h g) (λ _. h ∷ []) (λ _. h ∷ upTo g walk)
+unfoldable pub upToFirst : ℕ → List ℕ → List ℕ
+upToFirst g [] = []
+upToFirst g (h ∷ walk) = when (eqb h g) (λ _. h ∷ []) (λ _. h ∷ upToFirst g walk)
 
 unfoldable pub stepBack : (ℕ → List ℕ) → Option ℕ → List ℕ
 stepBack walk none = []
@@ -42,10 +42,10 @@ stepBack walk (some h) = walk h
 -- Back each time to the lowest predecessor, until a group repeats; then the part between the repeats. The walk has its last group first, and each
 -- group of it has an arrow to the one that it was reached from, so this order is along the arrows.
 unfoldable pub walkBack : (turns : ℕ) → (walk : List ℕ) → (g : ℕ) → List Edge → List ℕ
-unfolding member predecessor upTo stepBack
+unfolding member predecessor upToFirst stepBack
 walkBack zero walk g edges = []
 walkBack (suc turns) walk g edges =
-    when (member g walk) (λ _. upTo g walk) (λ _. stepBack (λ h. walkBack turns (g ∷ walk) h edges) (predecessor g edges))
+    when (member g walk) (λ _. upToFirst g walk) (λ _. stepBack (λ h. walkBack turns (g ∷ walk) h edges) (predecessor g edges))
 
 -- The smaller of two numbers is one of them.
 pub min-either : (a b : ℕ) → (min a b ≡ a) ⊎ (min a b ≡ b)
@@ -79,14 +79,14 @@ has-predecessor g (d ∷ edges) h =
     decided (eqb (d .to) g) (λ t. (lower (d .from) (predecessor g edges), rw t)) (λ t. rw t (has-predecessor g edges (rw t at h)))
 
 -- The walk up to a group that it has.
-pub upTo-split : (g : ℕ) (walk : List ℕ) → g ∈ walk →
-    (front : List ℕ) × (back : List ℕ) × (walk ≡ (front ++ g ∷ []) ++ back) × (upTo g walk ≡ front ++ g ∷ [])
-unfolding upTo
-upTo-split g [] m = absurd (List·Memᴰ·not-nil m)
-upTo-split g (x ∷ walk) m =
+pub upToFirst-split : (g : ℕ) (walk : List ℕ) → g ∈ walk →
+    (front : List ℕ) × (back : List ℕ) × (walk ≡ (front ++ g ∷ []) ++ back) × (upToFirst g walk ≡ front ++ g ∷ [])
+unfolding upToFirst
+upToFirst-split g [] m = absurd (List·Memᴰ·not-nil m)
+upToFirst-split g (x ∷ walk) m =
     decided (eqb x g)
     (λ t. ([], walk, ap (λ (h : ℕ). h ∷ walk) (eqb-true x g t), rw t (ap (λ (h : ℕ). h ∷ []) (eqb-true x g t))))
-    (λ t. let r = upTo-split g walk (⊎-elim (λ e. absurd (eqb-false x g t (sym e))) (λ k. k) (List·Memᴰ·cases-cons m)) in
+    (λ t. let r = upToFirst-split g walk (⊎-elim (λ e. absurd (eqb-false x g t (sym e))) (λ k. k) (List·Memᴰ·cases-cons m)) in
     (x ∷ r .0, r .1, ap (λ (l : List ℕ). x ∷ l) (r .2), rw t (ap (λ (l : List ℕ). x ∷ l) (r .3))))
 
 -- Distinct groups of a list, closed by edges.
@@ -97,9 +97,9 @@ pub record Circuit (groups : List ℕ) (edges : List Edge) (l : List ℕ) : Type
 
 -- The walk met g again.
 met-again : (groups : List ℕ) (edges : List Edge) (walk : List ℕ) (g : ℕ) → Distinct walk → ((h : ℕ) → h ∈ walk → h ∈ groups) →
-    Along edges g walk → g ∈ walk → Circuit groups edges (upTo g walk)
+    Along edges g walk → g ∈ walk → Circuit groups edges (upToFirst g walk)
 met-again groups edges walk g d w a m =
-    let (front, back, split, part) = upTo-split g walk m in
+    let (front, back, split, part) = upToFirst-split g walk m in
     rw part (record {
       closed = closed-turns edges g front (along-front edges g (front ++ g ∷ []) back (rw split at a));
       distinct = distinct-front (front ++ g ∷ []) back (rw split at d);

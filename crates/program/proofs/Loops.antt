@@ -22,7 +22,7 @@ use Rattle.program.specs.declared.reader.ReadAnswer as ReadAnswer
 use Rattle.transitions.specs.declared.transition.Transition.{Transition}
 use Rattle.transitions.specs.declared.transition.TransitionRead as TransitionRead
 use Rattle.transitions.specs.declared.transition.TransitionRead.{TransitionRead}
-use Rattle.program.specs.Starts.{Begun, afterHeader, noStarts, padded, programRead, refusedProgram, startOf}
+use Rattle.program.specs.Starts.{Begun, afterHeader, noStarts, padded, programRead, refusedProgram, transitionStart}
 use Rattle.transitions.specs.Transitions.{transitionRead}
 use Rattle.transitions.proofs.Transitions.{transition-read, transition-refused}
 
@@ -41,13 +41,13 @@ after-one passed a (refused r) = refl
 
 -- One start more.
 pub start-found : (header : Header) (bytes : List ℕ) (at : ℕ) {t : Programs.Transition} {n : ℕ} →
-    readTransition header bytes at ≡ found t n → startOf header bytes at ≡ found at n
-unfolding startOf
+    readTransition header bytes at ≡ found t n → transitionStart header bytes at ≡ found at n
+unfolding transitionStart
 start-found header bytes at h = rw h
 
 pub start-refused : (header : Header) (bytes : List ℕ) (at : ℕ) {r : Refusal} →
-    readTransition header bytes at ≡ refused r → startOf header bytes at ≡ refused r
-unfolding startOf
+    readTransition header bytes at ≡ refused r → transitionStart header bytes at ≡ refused r
+unfolding transitionStart
 start-refused header bytes at h = rw h
 
 -- The starts with zeros after them are all the entries.
@@ -61,8 +61,8 @@ pub record Passed (header : Header) (bytes : List ℕ) (at : ℕ) (starts : List
   pub within : i ≤ header .transitions
   pub sized : length starts ≡ maxTransitions
   pub unset : drop i starts ≡ replicate (maxTransitions - i) 0
-  pub same : times (header .transitions) (startOf header) bytes at
-      ≡ after (take i starts) (times (header .transitions - i) (startOf header) bytes place)
+  pub same : times (header .transitions) (transitionStart header) bytes at
+      ≡ after (take i starts) (times (header .transitions - i) (transitionStart header) bytes place)
 
 pub passed-none : (header : Header) (bytes : List ℕ) (at : ℕ) → Begun header at → Passed header bytes at noStarts at 0
 passed-none header bytes at begun = record {
@@ -73,7 +73,7 @@ passed-none header bytes at begun = record {
   unset = refl;
   same =
       let e : header .transitions - 0 ≡ header .transitions = omega arith in
-      rw e (sym (after-none (times (header .transitions) (startOf header) bytes at)));
+      rw e (sym (after-none (times (header .transitions) (transitionStart header) bytes at)));
 }
 
 module _ {header : Header} {bytes : List ℕ} {at : ℕ} {starts : List ℕ} {place i : ℕ} (p : Passed header bytes at starts place i) where
@@ -83,10 +83,10 @@ module _ {header : Header} {bytes : List ℕ} {at : ℕ} {starts : List ℕ} {pl
 
   -- What is left, one transition at a time.
   one-more : i < header .transitions →
-      times (header .transitions) (startOf header) bytes at
+      times (header .transitions) (transitionStart header) bytes at
       ≡ after (take i starts)
-      (Refusals._>>=_ (startOf header bytes place)
-      (λ a. Refusals._>>=_ (times (header .transitions - (i + 1)) (startOf header) bytes (a .next))
+      (Refusals._>>=_ (transitionStart header bytes place)
+      (λ a. Refusals._>>=_ (times (header .transitions - (i + 1)) (transitionStart header) bytes (a .next))
       (λ rest. found (a .value ∷ rest .value) (rest .next))))
   one-more h =
       let e : header .transitions - i ≡ suc (header .transitions - (i + 1)) = omega arith in
@@ -120,7 +120,7 @@ module _ {header : Header} {bytes : List ℕ} {at : ℕ} {starts : List ℕ} {pl
               one-more h
               ∙ rw (
                 start-found header bytes place m,
-                after-one (take i starts) place (times (header .transitions - (i + 1)) (startOf header) bytes next),
+                after-one (take i starts) place (times (header .transitions - (i + 1)) (transitionStart header) bytes next),
                 add-one i,
                 take-suc-set starts i place s,
               );
@@ -134,7 +134,7 @@ module _ {header : Header} {bytes : List ℕ} {at : ℕ} {starts : List ℕ} {pl
 
   -- All turns are taken.
   module _ (h : header .transitions ≤ i) where
-    all-passed : times (header .transitions) (startOf header) bytes at ≡ found (take i starts ++ []) place
+    all-passed : times (header .transitions) (transitionStart header) bytes at ≡ found (take i starts ++ []) place
     all-passed = let z : header .transitions - i ≡ 0 = omega arith in p .same ∙ rw (z, times-none)
 
     pub left-over : ¬ (place ≡ length bytes) →

@@ -35,7 +35,7 @@ use Rattle.program.specs.Starts.{
   readAnswer,
   readStarts,
   refusedProgram,
-  startOf,
+  transitionStart,
 }
 use Rattle.program.proofs.Loops.{start-found, start-refused}
 
@@ -78,18 +78,18 @@ module _ (header : Header) (bytes : List ℕ) where
   alike-more n at t next h (ok s) (refused r) a = a
   alike-more n at t next h (refused r) (ok ts) a = a
 
-  alike-step : (n at : ℕ) → ((next : ℕ) → Alike n (times n (startOf header) bytes next) (times n (readTransition header) bytes next)) →
+  alike-step : (n at : ℕ) → ((next : ℕ) → Alike n (times n (transitionStart header) bytes next) (times n (readTransition header) bytes next)) →
       (m : Result (Found Transition)) → readTransition header bytes at ≡ m →
-      Alike (suc n) (times (suc n) (startOf header) bytes at) (times (suc n) (readTransition header) bytes at)
+      Alike (suc n) (times (suc n) (transitionStart header) bytes at) (times (suc n) (readTransition header) bytes at)
   alike-step n at rest (ok f) e =
-      rw (times-more n (startOf header), times-more n (readTransition header), start-found header bytes at e, e)
-      (alike-more n at (f .value) (f .next) e (times n (startOf header) bytes (f .next)) (times n (readTransition header) bytes (f .next))
+      rw (times-more n (transitionStart header), times-more n (readTransition header), start-found header bytes at e, e)
+      (alike-more n at (f .value) (f .next) e (times n (transitionStart header) bytes (f .next)) (times n (readTransition header) bytes (f .next))
       (rest (f .next)))
   alike-step n at rest (refused r) e =
-      rw (times-more n (startOf header), times-more n (readTransition header), start-refused header bytes at e, e) refl
+      rw (times-more n (transitionStart header), times-more n (readTransition header), start-refused header bytes at e, e) refl
 
-  alike-times : (n at : ℕ) → Alike n (times n (startOf header) bytes at) (times n (readTransition header) bytes at)
-  alike-times zero at = rw (times-none (startOf header), times-none (readTransition header)) (refl, refl, tt)
+  alike-times : (n at : ℕ) → Alike n (times n (transitionStart header) bytes at) (times n (readTransition header) bytes at)
+  alike-times zero at = rw (times-none (transitionStart header), times-none (readTransition header)) (refl, refl, tt)
   alike-times (suc n) at = alike-step n at (alike-times n) (readTransition header bytes at) refl
 
 -- The program that was read, beside the starts: the same header, and its transitions each at its start.
@@ -129,7 +129,7 @@ module _ (header : Header) (bytes : List ℕ) (at : ℕ) where
   module _ (h : readHeader bytes 0 ≡ found header at) where
     pub starts-after : readStarts bytes ≡ afterHeader header bytes at
     unfolding readStarts afterHeader
-    starts-after = rw h (bind-assoc (times (header .transitions) (startOf header) bytes at) _ _)
+    starts-after = rw h (bind-assoc (times (header .transitions) (transitionStart header) bytes at) _ _)
 
     program-after : readProgram bytes ≡ withTransitions (times (header .transitions) (readTransition header) bytes at)
     unfolding readProgramIn
@@ -140,7 +140,7 @@ module _ (header : Header) (bytes : List ℕ) (at : ℕ) where
     together-after =
         rw (starts-after, program-after)
         (together-ends (header-finds .holds 0 _ h)
-        (times (header .transitions) (startOf header) bytes at)
+        (times (header .transitions) (transitionStart header) bytes at)
         (times (header .transitions) (readTransition header) bytes at)
         (alike-times header bytes (header .transitions) at))
 

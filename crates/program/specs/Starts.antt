@@ -17,9 +17,9 @@ use Rattle.program.specs.declared.reader.ReadAnswer.{ReadAnswer}
 use Rattle.program.specs.declared.reader.ProgramRead.{ProgramRead}
 
 -- Reads a transition, and gives where it starts.
-unfoldable pub startOf : Header → Reader ℕ
+unfoldable pub transitionStart : Header → Reader ℕ
 unfolding readTransition
-startOf header = do
+transitionStart header = do
   at ← here
   transition ← readTransition header
   pure at
@@ -30,10 +30,10 @@ pub record Starts : Type 0 where
   pub starts : List ℕ
 
 unfoldable pub startsReader : Reader Starts
-unfolding readHeaderIn times startOf
+unfolding readHeaderIn times transitionStart
 startsReader = do
   header ← readHeader
-  starts ← times (header .transitions) (startOf header)
+  starts ← times (header .transitions) (transitionStart header)
   pure (record { header = header; starts = starts })
 
 -- As `readProgram`, with nothing left over.
@@ -48,7 +48,7 @@ reach bytes make m =
 
 unfoldable pub afterHeader : Header → (bytes : List ℕ) → (at : ℕ) → Result Starts
 afterHeader header bytes at =
-    reach bytes (λ starts. record { header = header; starts = starts }) (times (header .transitions) (startOf header) bytes at)
+    reach bytes (λ starts. record { header = header; starts = starts }) (times (header .transitions) (transitionStart header) bytes at)
 
 -- A header that was read, and the place behind it: so few transitions follow, from a place so near, that every start fits sixteen bits.
 pub record Begun (header : Header) (at : ℕ) : Type 0 where

@@ -33,8 +33,8 @@ ranksWritten width list row zero = []
 ranksWritten width list row (suc count) = rankWritten (rowIn width list row) ++ ranksWritten width list (row + 1) count
 
 -- A rank is written in front of these bytes, and so many are used.
-pub record WritesRank (readings before after : List ℕ) (length : ℕ) : Type 0 where
-  pub counts : length ≡ rankLength readings
+pub record WritesRank (readings before after : List ℕ) (used : ℕ) : Type 0 where
+  pub counts : used ≡ rankLength readings
   pub fills : after ≡ fill (rankWritten readings) before
 
 -- A list that has the cells of so many ranks.

@@ -62,8 +62,8 @@ module _ (t : ℕ) where
   AtSecond = lts.After-evaluate-tokens2 (claims t) (here t) reads.Post
 
   -- The place before each of them, and the function's start.
-  abbrev startOf : AtToken → lts.Start (claims t) (here t) reads.Post
-  startOf c =
+  abbrev entryOf : AtToken → lts.Start (claims t) (here t) reads.Post
+  entryOf c =
       let read = c .before .before .before in
       let called = read .before in
       called .before .before .before
@@ -74,10 +74,10 @@ module _ (t : ℕ) where
   abbrev firstOf : FirstFound → AtFirst
   firstOf c = c .before .before .before
 
-  token-left : (c : AtToken) → 0 < startOf c .args .left
+  token-left : (c : AtToken) → 0 < entryOf c .args .left
   token-left c =
       let read = c .before .before in
-      some-left (startOf c .args .left) _ _ (read .before .before .read-token .ensures) (read .read .given .1)
+      some-left (entryOf c .args .left) _ _ (read .before .before .read-token .ensures) (read .read .given .1)
 
   returns : lts.Need-returns (claims t) (here t) reads.Post
   returns c =
@@ -87,7 +87,7 @@ module _ (t : ℕ) where
   evaluate-tokens-requires : lts.Need-evaluate-tokens-requires (claims t) (here t) reads.Post
   evaluate-tokens-requires c κs =
       let token = c .before .before .before in
-      (omega (arith, token-left token, startOf token .pre .0), tt)
+      (omega (arith, token-left token, entryOf token .pre .0), tt)
 
   first-refuses : lts.Need-returns-2 (claims t) (here t) reads.Post
   first-refuses c =
@@ -104,7 +104,7 @@ module _ (t : ℕ) where
       let read = token .before .before in
       let falls = fewer _ _ _ _ _ _ (read .before .before .read-token .ensures) (read .read .given .1) _ (token .token-of .ensures)
       (first .before .before .token2 .given .1) (first .evaluate-tokens .ensures) (c .before .first .given .1) in
-      (omega (arith, falls, startOf token .pre .0), tt)
+      (omega (arith, falls, entryOf token .pre .0), tt)
 
   second-refuses : lts.Need-returns-3 (claims t) (here t) reads.Post
   second-refuses c =
