@@ -104,7 +104,8 @@ pub record Demand1 (form : Form) (program start recorded order cells : List ℕ)
   pub other-input : (r : Refusal) → o .answer ≡ Refused r → RefusedAs order cells o r
 
 -- Demand 2. "A record is accepted exactly if it is a run of the program under Table 1 of the source, ending with empty queues, and the arrows drawn
--- are its happens-before relation between groups."
+-- are its happens-before relation between groups." The check's answer `o` has no part in it: it says what `accept` means, the "accepted" of demands 1
+-- and 3, by Table 1 alone, and what the arrows mean that demand 3 tells orders and rings by.
 pub record Demand2 (program start recorded : List ℕ) : Type 0 where
   pub accepted-exactly-if-run : (P : Program) (readings : Start) (last : Bare) →
       AcceptedTo program start recorded P readings last ↔ AreRun program start recorded P readings last
