@@ -3,12 +3,12 @@
 use Prim.Native.Nat.{ℕ, zero, suc, _+_, _<_, _≤_}
 use mathlib.Core.Path.{_≡_, refl, sym, subst, _∙_, ap, fun-ext}
 use mathlib.Core.Bool.{Bool, true, false, _&&_, _||_, false≢true}
-use mathlib.Core.List.{List, [], _∷_, _++_}
-use mathlib.Core.Option.{Option, some, none, Option·none-ne-some}
+use mathlib.Core.List.{List, [], _∷_, _++_, map}
+use mathlib.Core.Option.{Option, some, none, Option·none-ne-some, Option·some-injective}
 use native.Mathlib.Nat.{zero-lt-suc, not-suc-le-zero, le-of-suc-le-suc}
 use native.Mathlib.Omega.{arith}
 use lib.Dec.{eqb, leb}
-use lib.ListN.{length, getElem?}
+use lib.ListN.{length, take, getElem?}
 use borrow.Author.Tests.{eq-eqb, ne-eqb, eqb-true, leb-true, le-leb}
 use Rattle.model.specs.Refusals.{Result, ok, refused, refuse, require, present, _>>=_}
 use Rattle.model.specs.Choice.{when, between, Each, all, one}
@@ -169,6 +169,41 @@ pub getElem?-below : {A : Type 0} (l : List A) (i : ℕ) → i < length l → (a
 getElem?-below [] i h = absurd (not-suc-le-zero h)
 getElem?-below (x ∷ l) zero h = (x, refl)
 getElem?-below (x ∷ l) (suc i) h = getElem?-below l i (le-of-suc-le-suc h)
+
+-- Those of a list's front, and of its images.
+pub getElem?-take : {A : Type 0} (l : List A) (i j : ℕ) {a : A} → j < i → getElem? l j ≡ some a → getElem? (take i l) j ≡ some a
+getElem?-take [] i j less h = absurd (Option·none-ne-some _ h)
+getElem?-take (x ∷ l) zero j less h = absurd (not-suc-le-zero less)
+getElem?-take (x ∷ l) (suc i) zero less h = h
+getElem?-take (x ∷ l) (suc i) (suc j) less h = getElem?-take l i j (le-of-suc-le-suc less) h
+
+pub getElem?-taken : {A : Type 0} (l : List A) (i j : ℕ) {a : A} → getElem? (take i l) j ≡ some a → (getElem? l j ≡ some a) × (j < i)
+getElem?-taken l zero j h = absurd (Option·none-ne-some _ h)
+getElem?-taken [] (suc i) j h = absurd (Option·none-ne-some _ h)
+getElem?-taken (x ∷ l) (suc i) zero h = (h, zero-lt-suc i)
+getElem?-taken (x ∷ l) (suc i) (suc j) h = let (there, less) = getElem?-taken l i j h in (there, omega arith)
+
+pub getElem?-map : {A B : Type 0} (f : A → B) (l : List A) (i : ℕ) {a : A} → getElem? l i ≡ some a → getElem? (map f l) i ≡ some (f a)
+getElem?-map f [] i h = absurd (Option·none-ne-some _ h)
+getElem?-map f (x ∷ l) zero {a} h = ap (λ y. some (f y)) (Option·some-injective x a h)
+getElem?-map f (x ∷ l) (suc i) h = getElem?-map f l i h
+
+pub getElem?-mapped : {A B : Type 0} (f : A → B) (l : List A) (i : ℕ) {b : B} → getElem? (map f l) i ≡ some b →
+    (a : A) × (getElem? l i ≡ some a) × (f a ≡ b)
+getElem?-mapped f [] i h = absurd (Option·none-ne-some _ h)
+getElem?-mapped f (x ∷ l) zero {b} h = (x, refl, Option·some-injective (f x) b h)
+getElem?-mapped f (x ∷ l) (suc i) h = getElem?-mapped f l i h
+
+pub take-map : {A B : Type 0} (f : A → B) (n : ℕ) (l : List A) → take n (map f l) ≡ map f (take n l)
+take-map f zero l = refl
+take-map f (suc n) [] = refl
+take-map {B = B} f (suc n) (x ∷ l) = ap {B = List B} (λ r. f x ∷ r) (take-map f n l)
+
+-- What holds of each member holds of a numbered one.
+pub each-at : {A : Type 0} {Holds : A → Type 0} (l : List A) → Each Holds l → (i : ℕ) {x : A} → getElem? l i ≡ some x → Holds x
+each-at l all i h = absurd (Option·none-ne-some _ h)
+each-at {Holds = Holds} l (one {a} holds rest) zero {x} h = subst Holds (Option·some-injective a x h) holds
+each-at l (one {rest = others} holds rest) (suc i) h = each-at others rest i h
 
 -- Those of two lists in a row.
 pub getElem?-front : {A : Type 0} (l m : List A) (i : ℕ) {a : A} → getElem? l i ≡ some a → getElem? (l ++ m) i ≡ some a

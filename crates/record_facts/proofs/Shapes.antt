@@ -9,7 +9,7 @@ use mathlib.Core.List.{List, [], _∷_, _++_}
 use mathlib.Core.Logic.{inl}
 use mathlib.Core.Option.{Option·none-ne-some}
 use lib.Dec.{leb, eqb}
-use lib.ListN.{length, take, length-append}
+use lib.ListN.{length, length-append}
 use lib.Seq.{length-take-le}
 use borrow.Author.Tests.{eq-eqb, leb-true, leb-false}
 use Rattle.model.specs.Choice.{numbersFrom, select}
@@ -19,7 +19,7 @@ use Rattle.model.specs.Machine.{Start, State}
 use Rattle.model.specs.Replay.{Origin, Event, Replay, begin, joinsRow, every, isEmpty, quiet}
 use Rattle.model.specs.HappensBefore.{At, isCommand}
 use Rattle.model.specs.Checks.{groupEvents}
-use Rattle.model.proofs.Laws.{and-true, decided, getElem?-bound}
+use Rattle.model.proofs.Laws.{and-true, decided, getElem?-bound, getElem?-take, getElem?-taken}
 use Rattle.record_facts.specs.Facts.{Local, Shape}
 use Rattle.record_facts.proofs.Moves.{Move, commands, fetches, delivers}
 use Rattle.record_facts.proofs.Trajectory.{Run, begins, grows, move-at}
@@ -29,20 +29,7 @@ use Rattle.record_facts.proofs.Rows.{either, no-row, row-kept, not-join
 use Rattle.record_facts.proofs.Groups.{Groups, entering}
 use Rattle.record_facts.proofs.GroupMoves.{groups}
 
--- Members of the first part of a list.
-at-take : (events : List Event) (i j : ℕ) {x : Event} → j < i → At events j x → At (take i events) j x
-at-take [] i j less at = absurd (Option·none-ne-some _ at)
-at-take (e ∷ events) zero j less at = absurd (omega arith)
-at-take (e ∷ events) (suc i) zero less at = at
-at-take (e ∷ events) (suc i) (suc j) less at = at-take events i j (omega arith) at
-
-take-at : (events : List Event) (i j : ℕ) {x : Event} → At (take i events) j x → At events j x
-take-at [] zero j at = at
-take-at [] (suc i) j at = at
-take-at (e ∷ events) zero j at = absurd (Option·none-ne-some _ at)
-take-at (e ∷ events) (suc i) zero at = at
-take-at (e ∷ events) (suc i) (suc j) at = take-at events i j at
-
+-- The last of a list.
 at-last : (done : List Event) (e : Event) → At (done ++ e ∷ []) (length done) e
 at-last [] e = refl
 at-last (x ∷ done) e = at-last done e
@@ -102,7 +89,7 @@ module _ {P : Program} {start : Start} {local : ℕ → ℕ → Local} where
         x .group < e .group
     opens i j e x at own first less earlier =
         let here = move-at run i e at in
-        rw (move-opens (here .step) own first) (group-bound (here .run) j x (at-take events i j less earlier))
+        rw (move-opens (here .step) own first) (group-bound (here .run) j x (getElem?-take events i j less earlier))
 
     -- A bar that joins a row follows another of its group.
     pub joins : (i : ℕ) (e : Event) → At events i e → joinsRow (e .item) ≡ true →
@@ -111,7 +98,7 @@ module _ {P : Program} {start : Start} {local : ℕ → ℕ → Local} where
         let here = move-at run i e at in
         let (positive, group) = move-joins (here .step) joined in
         let (j, x, last, before, same) = last-event (here .run) positive in
-        (j, x, last ∙ length-take-le i events (omega (arith, getElem?-bound events i at)), take-at events i j before, same ∙ sym group)
+        (j, x, last ∙ length-take-le i events (omega (arith, getElem?-bound events i at)), getElem?-taken events i j before .0, same ∙ sym group)
 
 -- A test that all numbers of a range pass.
 every-at : (test : ℕ → Bool) (first count n : ℕ) → every test (numbersFrom first count) ≡ true → first ≤ n → n < first + count → test n ≡ true

@@ -1,10 +1,10 @@
 -- What a rank's transitions tell of its commands: the kind of each, and how many bars it has before each. So two runs with the same transitions
 -- agree on these.
-use Prim.Native.Nat.{ℕ, zero, suc}
+use Prim.Native.Nat.{ℕ, suc}
 use mathlib.Core.Path.{_≡_, refl, sym, _∙_, ap}
 use mathlib.Core.Bool.{Bool, true, false, true≢false}
 use mathlib.Core.List.{List, [], _∷_, map}
-use mathlib.Core.Option.{Option, some, none, Option·none-ne-some, Option·some-injective}
+use mathlib.Core.Option.{Option, some, none, Option·some-injective}
 use lib.Dec.{eqb}
 use lib.ListN.{length, take, getElem?}
 use Rattle.model.specs.declared.Item.{Item}
@@ -20,10 +20,10 @@ use Rattle.model.specs.Lists.{_∈_}
 use Rattle.model.proofs.Lists.{at-position}
 use Rattle.model.proofs.Selections.{select-yes, select-no, select-at, select-take}
 use Rattle.model.proofs.ItemKinds.{sameKind-true, command-part}
-use Rattle.model.proofs.Laws.{decided, and-true, true-and}
+use Rattle.model.proofs.Laws.{decided, and-true, true-and, getElem?-map, getElem?-taken, take-map}
 use Rattle.record_facts.specs.Facts.{Facts, barsOf, countOf, barOf}
 use Rattle.serializability.proofs.Projections.{commandOf-true}
-use Rattle.serializability.proofs.Groups.{kind-command, at-map}
+use Rattle.serializability.proofs.Groups.{kind-command}
 
 -- A transition that is a bar's.
 barTransitionOf : Option Transition → Bool
@@ -79,18 +79,6 @@ bars-selected P rank (e ∷ events) h =
     (λ b. rw (select-no (barOf rank) e events (rw b), select-no (barTransition P) (e .item .transition) (transitionsOf rank events) (kind ∙ b)) ih)))
     (λ c. rw (select-no (commandOf rank) e events c, select-no (barOf rank) e events (bar-command rank e c)) ih)
 
--- A front's members are the list's, and its image is the image's front.
-pub at-take : {A : Type 0} (n : ℕ) (l : List A) (i : ℕ) {x : A} → getElem? (take n l) i ≡ some x → getElem? l i ≡ some x
-at-take zero l i h = absurd (Option·none-ne-some _ h)
-at-take (suc n) [] i h = h
-at-take (suc n) (y ∷ l) zero h = h
-at-take (suc n) (y ∷ l) (suc i) h = at-take n l i h
-
-take-map : {A B : Type 0} (f : A → B) (n : ℕ) (l : List A) → take n (map f l) ≡ map f (take n l)
-take-map f zero l = refl
-take-map f (suc n) [] = refl
-take-map {B = B} f (suc n) (x ∷ l) = ap {B = List B} (λ r. f x ∷ r) (take-map f n l)
-
 -- The transitions before a place are the front of all.
 pub transitions-take : (rank : ℕ) (events : List Event) (i : ℕ) →
     transitionsOf rank (take i events) ≡ take (countOf rank (take i events)) (transitionsOf rank events)
@@ -104,7 +92,7 @@ module _ {P : Program} {start : Start} {items : List Item} {run : Replayed} (f :
       barsOf (rankOf e) (take i (run .events)) ≡
       length (select (barTransition P) (take (e .place) (transitionsOf (rankOf e) (run .events))))
   bars-before i e at c =
-      bars-selected P (rankOf e) (take i (run .events)) (λ j x ax. bar-transition f j x (at-take i (run .events) j ax)) ∙
+      bars-selected P (rankOf e) (take i (run .events)) (λ j x ax. bar-transition f j x (getElem?-taken (run .events) i j ax .0)) ∙
       ap (λ l. length (select (barTransition P) l))
       (transitions-take (rankOf e) (run .events) i ∙ ap (λ n. take n (transitionsOf (rankOf e) (run .events))) (sym (f .place-of i e at c)))
 
@@ -113,7 +101,7 @@ module _ {P : Program} {start : Start} {items : List Item} {run : Replayed} (f :
       getElem? (transitionsOf (rankOf e) (run .events)) (e .place) ≡ some (e .item .transition)
   transition-at i e at c =
       ap (getElem? (transitionsOf (rankOf e) (run .events))) (f .place-of i e at c) ∙
-      at-map (λ x. x .item .transition) (select (commandOf (rankOf e)) (run .events)) _
+      getElem?-map (λ x. x .item .transition) (select (commandOf (rankOf e)) (run .events)) _
       (select-at (commandOf (rankOf e)) (run .events) i at (commandOf-true e c))
 
 -- An event of one run, and the event of the same identity in another.

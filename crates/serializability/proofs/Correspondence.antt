@@ -1,13 +1,12 @@
 -- Two runs of one program in which each rank takes the same transitions. Each event of the one has its counterpart in the other, the event of the
 -- same identity; and two events are of one group in the one exactly if their counterparts are in the other: a transfer with its pops, or bars with
 -- as many bars before them.
-use Prim.Native.Nat.{ℕ, zero, suc, _<_}
-use mathlib.Core.Path.{_≡_, refl, sym, _∙_, ap}
+use Prim.Native.Nat.{ℕ, _<_}
+use mathlib.Core.Path.{_≡_, sym, _∙_, ap}
 use mathlib.Core.Bool.{true, true≢false}
-use mathlib.Core.List.{List, [], _∷_, map}
-use mathlib.Core.Option.{some, Option·none-ne-some}
+use mathlib.Core.List.{List}
 use lib.Dec.{eqb}
-use lib.ListN.{take, getElem?}
+use lib.ListN.{take}
 use borrow.Author.Tests.{eqb-true}
 use Rattle.model.specs.declared.Item.{Item}
 use Rattle.model.specs.declared.Kind.{Kind}
@@ -23,17 +22,11 @@ use Rattle.model.specs.Lists.{_∈_}
 use Rattle.model.proofs.Lists.{at-position}
 use Rattle.model.proofs.Selections.{select-from, Selected}
 use Rattle.model.proofs.ItemKinds.{transfer-command, command-part}
-use Rattle.model.proofs.Laws.{and-true}
+use Rattle.model.proofs.Laws.{and-true, getElem?-mapped}
 use Rattle.record_facts.specs.Facts.{Facts, PopOf, countOf}
 use Rattle.serializability.proofs.Groups.{kind-command, Together, fetched, delivered, passed-on, met}
 use Rattle.serializability.proofs.Identity.{compared, Issued, Known, commanded, fetching, delivering, Completed, Commander, together, known, completed, command-unique, at-unique, commander}
 use Rattle.serializability.proofs.CommandKinds.{Twins, twin-command, transition-at, same-bars, same-kinds}
-
--- A member of the image comes from a member.
-from-map : {A B : Type 0} (f : A → B) (l : List A) (k : ℕ) {b : B} → getElem? (map f l) k ≡ some b → (a : A) × (getElem? l k ≡ some a)
-from-map f [] k h = absurd (Option·none-ne-some _ h)
-from-map f (x ∷ l) zero h = (x, refl)
-from-map f (x ∷ l) (suc k) h = from-map f l k h
 
 -- The event of this identity in other events.
 pub record Counterpart (others : List Event) (x : Event) : Type 0 where
@@ -56,7 +49,7 @@ module _ {P : Program} {start start′ : Start} {items items′ : List Item} {ru
   command-counterpart : (i : ℕ) (x : Event) → At (run .events) i x → isCommand x ≡ true → Counterpart (run′ .events) x
   command-counterpart i x ax cx =
       let r : ℕ = rankOf x in
-      let there = from-map (λ e. e .item .transition) (select (commandOf r) (run′ .events)) (x .place)
+      let there = getElem?-mapped (λ e. e .item .transition) (select (commandOf r) (run′ .events)) (x .place)
       (rw (same r) at (transition-at f i x ax cx)) in
       let y : Event = there .0 in
       let s : Selected (commandOf r) (run′ .events) (x .place) y = select-from (commandOf r) (run′ .events) (x .place) (there .1) in

@@ -22,12 +22,12 @@ use Rattle.model.specs.Traces.{transitionsOf, Identified, cellOf, valueAt, Same
 use Rattle.model.specs.Checks.{orderItems, arranged}
 use Rattle.model.specs.Lists.{Precedes, _∈_}
 use Rattle.model.proofs.Lists.{position, at-position}
+use Rattle.model.proofs.Laws.{getElem?-map, each-at}
 use Rattle.record_facts.specs.Facts.{Facts, countOf, cellsAfter}
 use Rattle.serializability.specs.Orders.{Forward}
 use Rattle.serializability.specs.Claim.{Serialization}
 use Rattle.serializability.proofs.Arrangement.{arranged-member}
 use Rattle.serializability.proofs.Projections.{touches-own, Projected, projected-sym, arranged-projected, same-transitions, same-place, same-contents, same-end, same-order}
-use Rattle.serializability.proofs.Groups.{each-at, at-map}
 use Rattle.serializability.proofs.Identity.{identified-sym, identified-trans, identity-unique, at-unique}
 use Rattle.serializability.proofs.Correspondence.{counterpart, counterpart-in}
 use Rattle.serializability.proofs.Alike.{Alike, alike-at, alike-from, alike-transitions, alike-identity}
@@ -118,7 +118,7 @@ module _ {P : Program} {start : Start} {items : List Item} {run : Replayed} (f :
   all-in-record each [] member = all
   all-in-record each (e ∷ events) member =
       let m = member 0 e refl in
-      one (each-at items each (m .0) (rw (f .items-of) at (at-map (λ x. x .item) (run .events) (m .0) (m .1))))
+      one (each-at items each (m .0) (rw (f .items-of) at (getElem?-map (λ x. x .item) (run .events) (m .0) (m .1))))
       (all-in-record each events (λ i. member (suc i)))
 
   pub is-serial : Each (InRecord (P .header)) items → SerialRun P start (orderItems groups (run .events)) serial-run

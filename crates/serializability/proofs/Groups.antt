@@ -3,18 +3,19 @@
 use Prim.Native.Nat.{ℕ, zero, suc, _+_, _<_}
 use mathlib.Core.Path.{_≡_, refl, sym, _∙_, ap, subst}
 use mathlib.Core.Bool.{true, false, true≢false}
-use mathlib.Core.List.{List, [], _∷_, map}
+use mathlib.Core.List.{List, [], _∷_}
 use mathlib.Core.Option.{some, Option·none-ne-some, Option·some-injective}
 use native.Mathlib.Nat.{not-suc-le-zero, le-of-suc-le-suc, lt-irrefl}
 use native.Mathlib.Omega.{arith}
 use lib.ListN.{getElem?}
 use Rattle.model.specs.declared.Kind.{Kind}
 use Rattle.model.specs.declared.Kind.the-variants.{Popa, Popb, Bar}
-use Rattle.model.specs.Choice.{numbersFrom, Each, all, one}
+use Rattle.model.specs.Choice.{numbersFrom}
 use Rattle.model.specs.ItemKinds.{isTransfer, isCommandKind}
 use Rattle.model.specs.Programs.{Program}
 use Rattle.model.specs.Replay.{Event}
 use Rattle.model.specs.HappensBefore.{At, isCommand, rankOf}
+use Rattle.model.proofs.Laws.{getElem?-map, each-at}
 use Rattle.model.proofs.ItemKinds.{transfer-command}
 use Rattle.record_facts.specs.Facts.{Shape, single, transfer, row, PopOf, TransferOf, Local}
 
@@ -36,17 +37,6 @@ at-numbers first (suc count) zero {n} h =
     let same : first ≡ n = cc in
     omega (arith, same)
 at-numbers first (suc count) (suc k) h = omega (arith, at-numbers (first + 1) count k h)
-
--- A member's image, and what holds of each member.
-pub at-map : {A B : Type 0} (f : A → B) (l : List A) (k : ℕ) {x : A} → getElem? l k ≡ some x → getElem? (map f l) k ≡ some (f x)
-at-map f [] k h = absurd (Option·none-ne-some _ h)
-at-map f (y ∷ l) zero {x} h = ap (λ z. some (f z)) (Option·some-injective y x h)
-at-map f (y ∷ l) (suc k) h = at-map f l k h
-
-pub each-at : {A : Type 0} {Holds : A → Type 0} (l : List A) → Each Holds l → (k : ℕ) {x : A} → getElem? l k ≡ some x → Holds x
-each-at l all k h = absurd (Option·none-ne-some _ h)
-each-at {Holds = Holds} l (one {a} holds rest) zero {x} h = subst Holds (Option·some-injective a x h) holds
-each-at l (one {rest = others} holds rest) (suc k) h = each-at others rest k h
 
 -- A transfer stands first, then its fetch, then its delivery.
 pub record Transferred (l : List Event) (e : Event) : Type 0 where
@@ -125,6 +115,6 @@ module _ {P : Program} {local : ℕ → ℕ → Local} where
   shape-together (single e c t b) k (suc m) hx hy before = absurd (Option·none-ne-some _ hy)
   shape-together (transfer e a b whole) k m hx hy before = three-together e a b whole k m hx hy before
   shape-together (row bars kinds ranks) k m {x} {y} hx hy before =
-      let rank-x : rankOf x ≡ 1 + k = at-numbers 1 (P .header .ranks) k (rw ranks at (at-map rankOf bars k hx)) in
-      let rank-y : rankOf y ≡ 1 + m = at-numbers 1 (P .header .ranks) m (rw ranks at (at-map rankOf bars m hy)) in
+      let rank-x : rankOf x ≡ 1 + k = at-numbers 1 (P .header .ranks) k (rw ranks at (getElem?-map rankOf bars k hx)) in
+      let rank-y : rankOf y ≡ 1 + m = at-numbers 1 (P .header .ranks) m (rw ranks at (getElem?-map rankOf bars m hy)) in
       met (each-at bars kinds k hx) (each-at bars kinds m hy) (omega (arith, rank-x, rank-y, before))

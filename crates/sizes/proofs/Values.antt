@@ -16,7 +16,7 @@ use Rattle.model.specs.Machine.{State, Delivery, Action, loads, stores, assigns
 use Rattle.model.specs.Machine.{Start, initial, moveTo, setRegister, setCell, setRequests, setDeliveries}
 use Rattle.model.specs.Replay.{Origin, Replay, Taken, Replayed, perform, takeItem, takeItems, begin, quiet, atEnd, replay}
 use Rattle.model.specs.Checks.{Accepted, accept}
-use Rattle.model.proofs.Laws.{bind-ok, required, ok-injective, put₂-holds}
+use Rattle.model.proofs.Laws.{bind-ok, required, ok-injective, put₂-holds, each-at}
 use Rattle.model.proofs.Ranges.{Ranged, header-fits}
 use Rattle.model.proofs.Actions.{Asks, loading, storing, assigning, passing, reading, writing, meeting, action-asks}
 use Rattle.model.proofs.Replay.{ItemTaken, commands, fetches, delivers, item-taken, taken-oldest}
@@ -24,7 +24,6 @@ use Rattle.model.proofs.Accepted.{accepted-parts}
 use Rattle.record_facts.proofs.Queues.{oldest-out, each-out}
 use Rattle.record_facts.proofs.Rows.{each-snoc}
 use Rattle.record_facts.proofs.Bounds.{read-ranged}
-use Rattle.serializability.proofs.Groups.{each-at}
 use Rattle.sizes.proofs.Readings.{readings-fit}
 use Rattle.sizes.proofs.Constants.{ValueFits, evaluate-fits, values-fit}
 

@@ -19,10 +19,9 @@ use Rattle.model.specs.Machine.{Start, Access}
 use Rattle.model.specs.Replay.{Event, Replayed, replay, sameAddress}
 use Rattle.model.specs.HappensBefore.{At, conflict, sameCell, eitherWrites}
 use Rattle.model.specs.Traces.{SameTrace, InRecord}
-use Rattle.model.proofs.Laws.{decided, and-true, true-and, eqb-refl, getElem?-behind, each-weaker}
+use Rattle.model.proofs.Laws.{decided, and-true, true-and, eqb-refl, getElem?-map, getElem?-behind, each-weaker}
 use Rattle.model.proofs.Selections.{select-yes, select-no, select-append, split-at}
 use Rattle.model.proofs.Replay.{sameAddress-true, true-sameAddress}
-use Rattle.serializability.proofs.Groups.{at-map}
 use Rattle.traces.specs.Claims.{RecordedRun, Exchangeable, writesKind, inLog, atCell, SameLogs}
 use Rattle.traces.proofs.Accesses.{kind-writes, writes-as, item-placed}
 use Rattle.traces.proofs.Pairs.{facts-of}
@@ -179,7 +178,7 @@ module _ {P : Program} {start : Start} where
       item-is : (i : ℕ) {e : Event} {z : Item} → At (m .too .events) i e → getElem? (before ++ y ∷ x ∷ after) i ≡ some z → e .item ≡ z
       item-is i ae is =
           Option·some-injective _ _
-          (sym (at-map (λ e. e .item) (m .too .events) i ae) ∙ ap (λ l. getElem? l i) (facts-of (record-of m) .items-of) ∙ is)
+          (sym (getElem?-map (λ e. e .item) (m .too .events) i ae) ∙ ap (λ l. getElem? l i) (facts-of (record-of m) .items-of) ∙ is)
 
       may : Exchangeable (m .too .events) (length before) y x
       may =

@@ -19,11 +19,11 @@ use Rattle.model.specs.Replay.{Event, Replayed, accessOf}
 use Rattle.model.specs.HappensBefore.{At, isCommand, rankOf}
 use Rattle.model.specs.Traces.{valueAt, commandOf}
 use Rattle.model.specs.Checks.{inGroup}
-use Rattle.model.proofs.Laws.{and-true, ok-injective, getElem?-bound, getElem?-below}
+use Rattle.model.proofs.Laws.{and-true, ok-injective, getElem?-bound, getElem?-below, each-at}
 use Rattle.model.proofs.Selections.{select-at, select-from, Selected, selected-rises}
 use Rattle.record_facts.specs.Facts.{Facts, Local, CommandStep, Shape, single, transfer, row, countOf, registersAfter}
 use Rattle.serializability.proofs.Projections.{commandOf-true}
-use Rattle.serializability.proofs.Groups.{each-at, kind-command}
+use Rattle.serializability.proofs.Groups.{kind-command}
 use Rattle.model.proofs.ItemKinds.{command≢delivery, fetch≢delivery}
 use Rattle.serializability.proofs.Identity.{place-order}
 use Rattle.traces.proofs.Accesses.{valueIn}
