@@ -2,8 +2,9 @@
 -- pop has the entry that it chooses. The state after it and its event are then the definitions' own. The item's number has no part in it.
 use Prim.Native.Nat.{ℕ}
 use mathlib.Core.Path.{_≡_, refl, ap, subst}
-use mathlib.Core.Bool.{true, false, _&&_, Bool}
+use mathlib.Core.Bool.{true, false, _&&_, _||_, Bool}
 use mathlib.Core.List.{List, [], _∷_, _++_}
+use mathlib.Core.Logic.{_⊎_, inl, inr}
 use mathlib.Core.Option.{Option, some, none, Option·none-ne-some, Option·some-injective}
 use lib.Dec.{eqb}
 use lib.ListN.{getElem?}
@@ -17,8 +18,8 @@ use Rattle.model.specs.Choice.{Each, all, one}
 use Rattle.model.specs.ItemKinds.{sameKind, Part, command, fetch, delivery, partOf}
 use Rattle.model.specs.Programs.{Program, Transition, kindOf}
 use Rattle.model.specs.Machine.{Request, Delivery, Access, readOf, writeOf, cellAt, Action, action}
-use Rattle.model.specs.Replay.{Origin, Replay, Taken, sameAddress, rowAllows, agreesWith, accessOf, agreed, afterCommand, afterFetch, afterDelivery, requestFor, deliveryFor, behind, oldest, takeTransition, takeFetch, takeDelivery, takePart, takeItem}
-use Rattle.model.proofs.Laws.{refused≢ok, bind-ok, required, ok-injective, and-true, true-and, decided}
+use Rattle.model.specs.Replay.{Origin, Replay, Taken, sameAddress, rowAllows, agreesWith, accessOf, agreed, afterCommand, afterFetch, afterDelivery, isFor, requestFor, deliveryFor, behind, oldest, takeTransition, takeFetch, takeDelivery, takePart, takeItem}
+use Rattle.model.proofs.Laws.{refused≢ok, bind-ok, required, ok-injective, and-true, true-and, or-true, decided}
 use Rattle.model.proofs.ItemKinds.{sameKind-true, true-sameKind, fetch-kind, delivery-kind}
 use Rattle.model.proofs.Actions.{action-at}
 
@@ -109,6 +110,23 @@ module _ {A : Type 0} (among : A → Bool) where
   pub oldest-only : {l : List A} {a : A} → l ≡ a ∷ [] → among a ≡ true → oldest among l ≡ some (a, [])
   unfolding oldest
   oldest-only h passes = rw (h, passes)
+
+-- A pop chooses among the entries for the rank that it names, or among all where it names none.
+pub for-rank : (named remote : ℕ) → isFor named remote ≡ true → (named ≡ 0) ⊎ (named ≡ remote)
+unfolding isFor
+for-rank named remote h =
+    decided (eqb named 0)
+    (λ t. inl (eqb-true named 0 t))
+    (λ t. inr (eqb-true named remote (or-true (eqb named 0) (eqb named remote) t h)))
+
+pub rank-for : (named remote : ℕ) → (named ≡ 0) ⊎ (named ≡ remote) → isFor named remote ≡ true
+unfolding isFor
+rank-for named remote (inl unnamed) = rw (eq-eqb named 0 unnamed)
+rank-for named remote (inr same) = rw (eq-eqb named remote same) (or-last (eqb named 0))
+  where
+    or-last : (t : Bool) → (t || true) ≡ true
+    or-last true = refl
+    or-last false = refl
 
 -- So a pop that is taken has taken the oldest entry that it chooses from.
 pub taken-oldest : {s : Replay} {i : Item} {kind : Kind} {Entry : Type 0} {among : Entry → Bool} {queue : List Entry} {entry : Entry}

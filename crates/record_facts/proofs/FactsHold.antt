@@ -28,22 +28,23 @@ pub facts : (P : Program) (start : Start) (items : List Item) (run : Replayed) �
     Each (InRecord (P .header)) items → replay P start items ≡ ok run → Facts P start items run
 facts P start items run within h =
     let a : AcceptedRun P start items run = accepted P start items run within h in
+    let taken = a .taken in
     record {
-      items-of = a .items-of;
-      agrees = λ i e at. move-agrees (move-at (a .whole) i e at .step);
-      local = a .local;
-      local-start = local-start (a .whole);
-      local-step = local-step (a .whole);
-      control-end = λ rank. ap (λ l. l .control) (local-end (a .whole) rank);
-      registers-end = λ rank. ap (λ l. l .registers) (local-end (a .whole) rank);
-      place-of = place-of (a .whole);
-      reads = reads (a .whole);
-      cells-end = λ rank cell. ap (λ cells. cells rank cell) (cells-after (a .whole));
-      group-bound = group-bound (a .whole);
-      opens = opens (a .whole);
-      joins = joins (a .whole);
-      shape = shape (a .whole) (a .no-row) (a .all-quiet);
+      items-of = taken .items-of;
+      agrees = λ i e at. move-agrees (move-at (taken .whole) i e at .step);
+      local = taken .local;
+      local-start = local-start (taken .whole);
+      local-step = local-step (taken .whole);
+      control-end = λ rank. ap (λ l. l .control) (local-end (taken .whole) rank);
+      registers-end = λ rank. ap (λ l. l .registers) (local-end (taken .whole) rank);
+      place-of = place-of (taken .whole);
+      reads = reads (taken .whole);
+      cells-end = λ rank cell. ap (λ cells. cells rank cell) (cells-after (taken .whole));
+      group-bound = group-bound (taken .whole);
+      opens = opens (taken .whole);
+      joins = joins (taken .whole);
+      shape = shape (taken .whole) (a .no-row) (a .all-quiet);
       row-group = rowGroup (run .events);
-      bar-group = bar-group (a .whole);
-      bar-index = bar-index (a .whole);
+      bar-group = bar-group (taken .whole);
+      bar-index = bar-index (taken .whole);
     }

@@ -6,8 +6,8 @@ use mathlib.Core.Path.{_≡_, refl, sym, _∙_, ap, subst}
 use mathlib.Core.Bool.{true, false}
 use mathlib.Core.List.{List, [], _∷_, _++_, map-append}
 use mathlib.Core.Logic.{_⊎_, inl, inr}
-use lib.Dec.{leb, eqb}
-use borrow.Author.Tests.{eqb-true, leb-true, leb-false}
+use lib.Dec.{eqb}
+use borrow.Author.Tests.{eqb-true}
 use Rattle.model.specs.declared.Item.{Item}
 use Rattle.model.specs.declared.Kind.the-variants.{Bar}
 use Rattle.model.specs.Choice.{numbersFrom, select}
@@ -24,11 +24,11 @@ use Rattle.record_facts.specs.Facts.{Local}
 use Rattle.record_facts.proofs.Moves.{Commands, Move, commands, fetches, delivers}
 use Rattle.record_facts.proofs.Locals.{localOf}
 use Rattle.record_facts.proofs.Trajectory.{Run, begins, grows, local-now}
-use Rattle.record_facts.proofs.Queues.{entriesOf, Out, oldest-out, out-own, out-nothing}
-use Rattle.record_facts.proofs.Status.{Standing, standing, requestGroup, deliveryGroup, nothing, unopened, Pops, Status, closed, fetch-status, delivery-status}
+use Rattle.record_facts.proofs.Queues.{oldest-out, out-own}
+use Rattle.record_facts.proofs.Status.{Standing, standing, requestGroup, deliveryGroup, nothing, Pops, Status, closed, fetch-status, delivery-status}
 use Rattle.record_facts.proofs.Standings.{stands-other, stands-command, stands-fetch, stands-delivery}
 use Rattle.record_facts.proofs.Rows.{no-row, row-kept, not-joining, next-rank, row-closes, row-grows, group-opened, count-opened, numbers-snoc, each-snoc}
-use Rattle.record_facts.proofs.Groups.{OpenRow, Groups, Stands, stands-after, command-status, entering}
+use Rattle.record_facts.proofs.Groups.{OpenRow, Groups, Stands, stands-after, known-group, command-status, entering}
 
 module _ {P : Program} {local : ℕ → ℕ → Local} {s : Replay} {done : List Event} (inv : Groups P local done s)
     (now : (rank : ℕ) → local rank (s .taken rank) ≡ localOf s rank) where
@@ -133,14 +133,6 @@ module _ {P : Program} {local : ℕ → ℕ → Local} {s : Replay} {done : List
         open-row = λ h. absurd (omega arith);
       }
 
-  -- An entry belongs to a group that is numbered, since the others have none.
-  known-group : {A : Type 0} (group : A → ℕ) {a : A} {l rest : List A} → Out a l rest →
-      (standing (group a) done s ≡ unopened → entriesOf group (group a) l ≡ []) → group a < s .opened
-  known-group group {a} o none-there =
-      decided (leb (s .opened) (group a))
-      (λ beyond. absurd (out-nothing (out-own group (group a) o refl) (none-there (inv .fresh (group a) (leb-true (s .opened) (group a) beyond)))))
-      (λ known. leb-false (s .opened) (group a) known)
-
   -- A fetch takes its transfer on, and so does a delivery.
   fetch-groups : (i : Item) (a : Request Origin) (rest : List (Request Origin)) → FetchTaken s i a rest →
       Groups P local (done ++ afterFetch s i a rest .event ∷ []) (afterFetch s i a rest .state)
@@ -157,7 +149,7 @@ module _ {P : Program} {local : ℕ → ℕ → Local} {s : Replay} {done : List
         for-remote = taken .passes;
       } in
       pop-groups (fetches i a rest c) (no-row (s .row) i (c .allowed) (rw (c .kind-is) refl)) refl refl
-      (known-group requestGroup out (ap (λ w. w .requests (i .rank) (i .queue))))
+      (known-group inv requestGroup out (ap (λ w. w .requests (i .rank) (i .queue))))
       (λ stood. rw (stands-fetch s done i a rest) (fetch-status stood _ (i .rank) (i .queue) _ a _ (c .kind-is) pops refl own))
 
   delivery-groups : (i : Item) (b : Delivery Origin) (rest : List (Delivery Origin)) → DeliveryTaken s i b rest →
@@ -175,7 +167,7 @@ module _ {P : Program} {local : ℕ → ℕ → Local} {s : Replay} {done : List
         for-remote = taken .passes;
       } in
       pop-groups (delivers i b rest c) (no-row (s .row) i (c .allowed) (rw (c .kind-is) refl)) refl refl
-      (known-group deliveryGroup out (ap (λ w. w .deliveries (i .rank) (i .queue))))
+      (known-group inv deliveryGroup out (ap (λ w. w .deliveries (i .rank) (i .queue))))
       (λ stood. rw (stands-delivery s done i b rest) (delivery-status stood _ (i .rank) (i .queue) b _ (c .kind-is) pops refl own))
 
   -- Each step keeps the groups.

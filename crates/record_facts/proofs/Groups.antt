@@ -8,6 +8,8 @@ use mathlib.Core.Path.{_≡_, refl, sym, subst, ap}
 use mathlib.Core.Bool.{true, false, true≢false}
 use mathlib.Core.List.{List, [], _∷_, _++_, map}
 use mathlib.Core.Logic.{_⊎_, inl, inr}
+use lib.Dec.{leb}
+use borrow.Author.Tests.{leb-true, leb-false}
 use Rattle.model.specs.declared.Address.{Address}
 use Rattle.model.specs.declared.Item.{Item}
 use Rattle.model.specs.declared.Kind.the-variants.{Bar}
@@ -21,6 +23,7 @@ use Rattle.model.proofs.Laws.{decided}
 use Rattle.record_facts.specs.Facts.{Local}
 use Rattle.record_facts.proofs.Moves.{Commands, Move}
 use Rattle.record_facts.proofs.Locals.{localOf}
+use Rattle.record_facts.proofs.Queues.{Out, entriesOf, out-own, out-nothing}
 use Rattle.record_facts.proofs.Status.{Standing, standing, nothing, unopened, plusEvent, plusRequest, Issues, requestOf, Status, alone, issued}
 use Rattle.record_facts.proofs.Standings.{stands-other, stands-command, stands-transfer}
 use Rattle.record_facts.proofs.Rows.{either, joining, opening, group-joined, group-opened, count-joined, count-opened}
@@ -50,6 +53,15 @@ stands-after {P} {local} {s′ = s′} {e} done step g own others =
     either (e .group) g
     (λ same. subst (Stands P local (done ++ e ∷ []) s′) same (own same))
     (λ different. rw (stands-other done step g different) (others different))
+
+-- An entry belongs to a group that is numbered, since the others have none.
+pub known-group : {P : Program} {local : ℕ → ℕ → Local} {s : Replay} {done : List Event} → Groups P local done s →
+    {A : Type 0} (group : A → ℕ) {a : A} {l rest : List A} → Out a l rest →
+    (standing (group a) done s ≡ unopened → entriesOf group (group a) l ≡ []) → group a < s .opened
+known-group {s = s} inv group {a} o none-there =
+    decided (leb (s .opened) (group a))
+    (λ beyond. absurd (out-nothing (out-own group (group a) o refl) (none-there (inv .fresh (group a) (leb-true (s .opened) (group a) beyond)))))
+    (λ known. leb-false (s .opened) (group a) known)
 
 -- What a command makes of a group that is not yet opened.
 module _ {P : Program} {local : ℕ → ℕ → Local} {s : Replay} (done : List Event)

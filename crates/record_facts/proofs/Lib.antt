@@ -1,4 +1,5 @@
--- What holds of every accepted record, in the order of the argument: moves, runs, a file or two for each fact, and the facts together.
+-- What holds of every accepted record, in the order of the argument: moves, runs, a file or two for each fact, and the facts together. Behind them,
+-- that the pops of a run are paired with their transfers first in, first out, and that the replay's marks say so.
 pub mod Actions
 pub mod Moves
 pub mod Locals
@@ -17,3 +18,12 @@ pub mod Shapes
 pub mod RowGroups
 pub mod Bars
 pub mod FactsHold
+pub mod Waiting
+pub mod Numbers
+pub mod Popping
+pub mod InOrder
+pub mod Requesting
+pub mod Pairing
+pub mod PairedFetches
+pub mod PairedDeliveries
+pub mod Marks

@@ -10,7 +10,7 @@ use Rattle.model.specs.Replay.{Origin, Event, Replay, Taken, afterCommand, afte
 use Rattle.model.specs.Traces.{InRecord}
 use Rattle.model.proofs.Actions.{action-asks}
 use Rattle.model.proofs.Replay as Inversion
-use Rattle.model.proofs.Replay.{CommandTaken, FetchTaken, DeliveryTaken, ItemTaken}
+use Rattle.model.proofs.Replay.{CommandTaken, FetchTaken, DeliveryTaken, ItemTaken, takes-item}
 use Rattle.record_facts.proofs.Actions.{Fits, action-fits}
 
 -- A command item of a record with the transition and the action that it takes.
@@ -41,3 +41,10 @@ item-taken P s at i within h = go (Inversion.item-taken P s at i h)
         (commands i t a (record { in-record = within; fits = subst (Fits P a) (c .kind) (action-fits asks); taken = c }), refl)
     go (Inversion.fetches a rest f) = (fetches i a rest f, refl)
     go (Inversion.delivers b rest d) = (delivers i b rest d, refl)
+
+-- And a move's item is taken, whatever its number.
+pub move-takes : {P : Program} {s s′ : Replay} {e : Event} → Move P s e s′ → (at : ℕ) →
+    takeItem P s at (e .item) ≡ ok (record { state = s′; event = e })
+move-takes {P} {s} (commands i t a c) at = takes-item P s at i (Inversion.commands t a (c .taken))
+move-takes {P} {s} (fetches i a rest c) at = takes-item P s at i (Inversion.fetches a rest c)
+move-takes {P} {s} (delivers i b rest c) at = takes-item P s at i (Inversion.delivers b rest c)

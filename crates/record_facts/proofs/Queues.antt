@@ -1,5 +1,5 @@
 -- The entries that a group has in a queue. An entry that is appended or taken out counts for its own group alone. Of the way in which a pop chooses
--- its entry only this is used: the entry is taken out of the queue, and the others stay (`Out`).
+-- its entry the facts use only this: the entry is taken out of the queue, and the others stay (`Out`).
 use Prim.Native.Nat.{ℕ}
 use native.Mathlib.Omega.{arith}
 use mathlib.Core.Path.{_≡_, _∙_, ap, fun-ext}

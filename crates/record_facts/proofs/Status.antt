@@ -144,7 +144,7 @@ pub record There {A : Type 0} (rank queue : ℕ) (x : A) (k l : ℕ) (a : A) (le
   pub entry : a ≡ x
   pub none-left : left ≡ []
 
-only-there : {A : Type 0} (rank queue : ℕ) (x : A) {a : A} {left : List A} (k l : ℕ) → Out a (only rank queue x k l) left →
+pub only-there : {A : Type 0} (rank queue : ℕ) (x : A) {a : A} {left : List A} (k l : ℕ) → Out a (only rank queue x k l) left →
     There rank queue x k l a left
 unfolding put₂
 only-there rank queue x k l o =

@@ -8,11 +8,11 @@ use native.Mathlib.Nat.{le-refl, le-trans}
 use native.Mathlib.Omega.{arith}
 use mathlib.Core.Path.{_≡_, refl, sym, _∙_, ap, ap₂}
 use mathlib.Core.Bool.{true}
-use mathlib.Core.List.{List, [], _∷_, _++_, map, append-nil, append-assoc}
+use mathlib.Core.List.{List, [], _∷_, _++_, map, map-append, append-nil, append-assoc}
 use mathlib.Core.Option.{Option·none-ne-some}
 use mathlib.Core.Logic.{_⊎_, inl, inr}
 use lib.Dec.{leb}
-use lib.ListN.{take}
+use lib.ListN.{length, take}
 use borrow.Author.Tests.{leb-true, le-leb}
 use Rattle.model.specs.declared.Item.{Item}
 use Rattle.model.specs.Refusals.{ok}
@@ -23,9 +23,9 @@ use Rattle.model.specs.Replay.{Event, Replay, Replayed, begin, takeItem, takeIt
 use Rattle.model.specs.HappensBefore.{At}
 use Rattle.model.specs.Traces.{InRecord, commandOf}
 use Rattle.model.proofs.Laws.{ok-injective, bind-ok, decided}
-use Rattle.model.proofs.TakenItems.{replay-taken}
+use Rattle.model.proofs.TakenItems.{onward-taken, takeItems-append, replay-taken}
 use Rattle.record_facts.specs.Facts.{Local, initialLocal}
-use Rattle.record_facts.proofs.Moves.{Move, item-taken}
+use Rattle.record_facts.proofs.Moves.{Move, item-taken, move-takes}
 use Rattle.record_facts.proofs.Locals.{localOf, Kept, local-kept, count-up}
 
 -- The steps from a state to a state.
@@ -89,6 +89,16 @@ unfolding begin
 local-now (begins h) rank = h rank
 local-now (grows run step h) rank = h rank
 
+-- A run's items are taken, to its state and by its events.
+pub run-taken : {P : Program} {start : Start} {local : ℕ → ℕ → Local} {done : List Event} {s : Replay} → Run P start local done s →
+    takeItems P (begin start) 0 (map (λ e. e .item) done) ≡ ok (record { last = s; events = done })
+unfolding takeItems
+run-taken (begins h) = refl
+run-taken {P} {start} (grows {done = done} {s = s} {e = e} run step h) =
+    let items : List Item = map (λ e. e .item) done in
+    let last = onward-taken P s (0 + length items) (e .item) [] (move-takes step (0 + length items)) refl in
+    rw (map-append (λ e. e .item) done (e ∷ [])) (takeItems-append P items (e .item ∷ []) (begin start) 0 ∙ rw (run-taken run, last))
+
 -- No rank's count falls.
 taken-rises : {P : Program} {s s′ : Replay} {e : Event} → Move P s e s′ → (rank : ℕ) → s .taken rank ≤ s′ .taken rank
 taken-rises {e = e} step rank =
@@ -105,28 +115,30 @@ follow {done = done} run (next {s₁ = s₁} {e = e} {rest = rest} step p) agree
     let grown = grows run step (λ rank. later rank (s₁ .taken rank) (le-refl (s₁ .taken rank)) ∙ foretold-now p rank) in
     rw append-assoc at (follow grown p later)
 
--- An accepted list is a run, by events of its items, which ends with no open row and with quiet queues.
-pub record AcceptedRun (P : Program) (start : Start) (items : List Item) (run : Replayed) : Type 0 where
+-- A list that the replay takes is a run, by events of its items.
+pub record TakenRun (P : Program) (start : Start) (items : List Item) (run : Replayed) : Type 0 where
   pub local : ℕ → ℕ → Local
   pub whole : Run P start local (run .events) (run .last)
   pub items-of : map (λ e. e .item) (run .events) ≡ items
+
+pub taken-run : (P : Program) (start : Start) (items : List Item) (run : Replayed) → Each (InRecord (P .header)) items →
+    takeItems P (begin start) 0 items ≡ ok run → TakenRun P start items run
+unfolding begin
+taken-run P start items run within taken =
+    let (p, items-of) = path P (begin start) 0 items run within taken in
+    record { local = foretold p; whole = follow (begins (foretold-now p)) p (λ rank count h. refl); items-of = items-of }
+
+-- An accepted list ends with no open row and with quiet queues.
+pub record AcceptedRun (P : Program) (start : Start) (items : List Item) (run : Replayed) : Type 0 where
+  pub taken : TakenRun P start items run
   pub no-row : run .last .row ≡ 0
   pub all-quiet : quiet P (run .last .machine) ≡ true
 
--- The run of an accepted list.
 pub accepted : (P : Program) (start : Start) (items : List Item) (run : Replayed) → Each (InRecord (P .header)) items →
     replay P start items ≡ ok run → AcceptedRun P start items run
-unfolding begin
 accepted P start items run within h =
     let (taken, ended) = replay-taken P start items h in
-    let (p, items-of) = path P (begin start) 0 items run within taken in
-    record {
-      local = foretold p;
-      whole = follow (begins (foretold-now p)) p (λ rank count h. refl);
-      items-of = items-of;
-      no-row = ended .no-row;
-      all-quiet = ended .all-quiet;
-    }
+    record { taken = taken-run P start items run within taken; no-row = ended .no-row; all-quiet = ended .all-quiet }
 
 -- A numbered member of a list with one more at its end is an old one or the new one.
 abbrev pub SnocAt : (done : List Event) (x : Event) (i : ℕ) (e : Event) → Type 0

@@ -14,7 +14,7 @@ use Rattle.model.proofs.Laws.{and-true}
 use Rattle.model.proofs.Replay.{sameAddress-true}
 use Rattle.model.proofs.Actions.{Asks, loading, storing, assigning, passing, reading, writing, meeting, action-asks}
 use Rattle.record_facts.proofs.Moves.{Move, commands, fetches, delivers}
-use Rattle.record_facts.proofs.Trajectory.{AcceptedRun, accepted, move-at}
+use Rattle.record_facts.proofs.Trajectory.{TakenRun, accepted, move-at}
 use Rattle.record_facts.proofs.FactsHold.{facts}
 use Rattle.serializability.proofs.Cells.{writesTo}
 use Rattle.traces.specs.Claims.{RecordedRun, writesKind}
@@ -54,8 +54,8 @@ move-writes (fetches i a rest c) = rw (c .kind-is) refl
 move-writes (delivers i b rest c) = rw (c .kind-is) refl
 
 -- The run of an accepted record, step by step.
-abbrev pub run-of : {P : Program} {start : Start} {run : Replayed} (a : RecordedRun P start run) → AcceptedRun P start (a .items) run
-run-of {P} {start} {run} a = accepted P start (a .items) run (a .in-record) (a .replayed)
+abbrev pub run-of : {P : Program} {start : Start} {run : Replayed} (a : RecordedRun P start run) → TakenRun P start (a .items) run
+run-of {P} {start} {run} a = accepted P start (a .items) run (a .in-record) (a .replayed) .taken
 
 pub kind-writes : {P : Program} {start : Start} {run : Replayed} → RecordedRun P start run → (i : ℕ) (e : Event) → At (run .events) i e →
     WritesAs (writesKind (e .item .kind)) (e .access)
