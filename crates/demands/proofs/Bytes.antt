@@ -1,12 +1,14 @@
 -- Demands 2 and 3 for all program, start and record bytes. The proofs stand in the crates below.
 use Prim.Native.Nat.{ℕ, _<_}
-use mathlib.Core.Path.{_≡_}
+use mathlib.Core.Path.{_≡_, sym, _∙_, subst}
 use mathlib.Core.List.{List}
 use mathlib.Core.Logic.{_↔_, _⊎_}
+use Rattle.model.specs.declared.Item.{Item}
 use Rattle.model.specs.Refusals.{ok}
 use Rattle.model.specs.Choice.{Each}
 use Rattle.model.specs.Bytes.{AreBytes}
 use Rattle.model.specs.Programs.{Program}
+use Rattle.model.specs.Records.{readRecord}
 use Rattle.model.specs.Machine.{Start}
 use Rattle.model.specs.Rules.{Bare}
 use Rattle.model.specs.Replay.{Event}
@@ -15,6 +17,8 @@ use Rattle.model.specs.Traces.{InRecord}
 use Rattle.model.specs.Orders.{ordered, cyclic}
 use Rattle.model.specs.Checks.{acceptIn, accept, verdictOn, Accepted}
 use Rattle.model.specs.Lists.{_∈_}
+use Rattle.model.proofs.Laws.{ok-injective}
+use Rattle.model.proofs.TakenItems.{replay-taken}
 use Rattle.model.proofs.Ranges.{read-in-record}
 use Rattle.model.proofs.Accepted.{AcceptedParts, accepted-parts}
 use Rattle.acceptance.proofs.Acceptance.{record-accepted-iff-run}
@@ -22,7 +26,9 @@ use Rattle.ordering.proofs.Edges.{edges-agree}
 use Rattle.ordering.specs.Orders.{TopologicalOrder, ShortestRing}
 use Rattle.ordering.proofs.Verdicts.{ordered-or-cyclic}
 use Rattle.ordering.proofs.Runs.{run-order, run-ring}
+use Rattle.record_facts.specs.Transfers.{MarksAgree}
 use Rattle.record_facts.proofs.FactsHold.{facts}
+use Rattle.record_facts.proofs.Marks.{marks-agree}
 use Rattle.serializability.specs.Claim.{Serializable}
 use Rattle.serializability.proofs.Serializability.{serializable}
 use Rattle.demands.specs.Demands.{AcceptedTo, AreRun}
@@ -60,6 +66,16 @@ accepted-iff-run program start recorded P readings last bytes = (sound, complete
 -- ".. and the arrows drawn are its happens-before relation between groups."
 pub arrows-are-happens-before : (events : List Event) (g h : ℕ) → (g ⟶ h ∈ edgesOf events) ↔ HappensBefore events g h
 arrows-are-happens-before = edges-agree
+
+-- "A group is a read or write with its popa and popb": those of its transfer, first in, first out.
+pub pops-with-their-transfers : (program start recorded : List ℕ) (a : Accepted) → AreBytes recorded → accept program start recorded ≡ ok a →
+    (items : List Item) → readRecord (a .program .header) recorded ≡ ok items → MarksAgree (a .program) (a .readings) items (a .run)
+pops-with-their-transfers program start recorded a bytes accepted items read =
+    let p = accepted-parts program start recorded a accepted in
+    let same : p .items ≡ items = ok-injective (sym (p .record-read) ∙ read) in
+    subst (λ l. MarksAgree (a .program) (a .readings) l (a .run)) same
+    (marks-agree (a .program) (a .readings) (p .items) (a .run) (in-record program start recorded bytes p)
+    (replay-taken (a .program) (a .readings) (p .items) (p .replayed) .0))
 
 -- An accepted record of a readable program.
 module _ (program start recorded : List ℕ) (a : Accepted) (bytes : AreBytes recorded) (accepted : accept program start recorded ≡ ok a) where

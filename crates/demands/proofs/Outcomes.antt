@@ -22,7 +22,7 @@ use Rattle.serializability.specs.Claim.{Serializable}
 use Rattle.demands.specs.Entries.{Form, entries, firstEntries}
 use Rattle.demands.specs.Demands.{groupsOf, arrowsOf, cellsOf, Answerable, IsVerdict, countIn, Untouched, RefusedAs, IsRing, IsOrder}
 use Rattle.demands.specs.Demands.{Demand1, Demand2, Demand3, MeetsDemands}
-use Rattle.demands.proofs.Bytes.{accepted-iff-run, arrows-are-happens-before, order-forward, ring-shortest, accepted-serializable}
+use Rattle.demands.proofs.Bytes.{accepted-iff-run, arrows-are-happens-before, pops-with-their-transfers, order-forward, ring-shortest, accepted-serializable}
 use Rattle.demands.proofs.Entries.{written, capacity, entries-length, filled-entries, filled-reads, filled-untouched}
 use Rattle.demands.proofs.LastCells.{last-cells-length, last-cell-at}
 use Rattle.demands.proofs.Refusals.{check-tabled}
@@ -108,6 +108,7 @@ module _ (form : Form) (program start recorded order cells : List ℕ) where
         record {
           accepted-exactly-if-run = λ P readings last. accepted-iff-run program start recorded P readings last bytes;
           arrows-are-happens-before = λ a accepted. arrows-are-happens-before (a .run .events);
+          pops-with-their-transfers = λ a. pops-with-their-transfers program start recorded a bytes;
         }
 
     -- A refusal: its number is in the table, and nothing was to be written.

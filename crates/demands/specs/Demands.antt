@@ -25,6 +25,7 @@ use Rattle.model.specs.Traces.{SameTrace, SerialRun}
 use Rattle.model.specs.Checks.{accept, Accepted, orderItems, Outcome}
 use Rattle.model.specs.Lists.{_∈_}
 use Rattle.acceptance.specs.Bare.{bare}
+use Rattle.record_facts.specs.Transfers.{MarksAgree}
 use Rattle.ordering.specs.Orders.{TopologicalOrder, ShortestRing}
 use Rattle.serializability.specs.Claim.{Serialization}
 use Rattle.demands.specs.Entries.{Form, width, entries, firstEntries}
@@ -105,12 +106,15 @@ pub record Demand1 (form : Form) (program start recorded order cells : List ℕ)
 
 -- Demand 2. "A record is accepted exactly if it is a run of the program under Table 1 of the source, ending with empty queues, and the arrows drawn
 -- are its happens-before relation between groups." The check's answer `o` has no part in it: it says what `accept` means, the "accepted" of demands 1
--- and 3, by Table 1 alone, and what the arrows mean that demand 3 tells orders and rings by.
+-- and 3, by Table 1 alone; what the arrows mean that demand 3 tells orders and rings by; and which events are one group.
 pub record Demand2 (program start recorded : List ℕ) : Type 0 where
   pub accepted-exactly-if-run : (P : Program) (readings : Start) (last : Bare) →
       AcceptedTo program start recorded P readings last ↔ AreRun program start recorded P readings last
   pub arrows-are-happens-before : (a : Accepted) → IsAccepted program start recorded a →
       (g h : ℕ) → (g ⟶ h ∈ arrowsOf a) ↔ HappensBefore (a .run .events) g h
+  -- "A group is a read or write with its popa and popb": each pop is in the group of the transfer that it is for, first in, first out.
+  pub pops-with-their-transfers : (a : Accepted) → IsAccepted program start recorded a → (items : List Item) →
+      readRecord (a .program .header) recorded ≡ ok items → MarksAgree (a .program) (a .readings) items (a .run)
 
 -- No plain run of the program, of any length, from the same start has the record's trace: "A plain run begins from those readings too".
 abbrev pub NoSerialRun : Accepted → Type 0
