@@ -49,20 +49,17 @@ fn take_action(
         (memory (now (control .exit)) (now (registers .exit)) (now (cells .exit)) (now (pool .exit)) (now (ends .exit)))
         r ⌝ }
 {
-    let header = turn.header;
-    let item = turn.item;
-    let progress = turn.progress;
-    let rank = item.rank;
-    let at = progress.at;
+    let rank = turn.item.rank;
+    let at = turn.progress.at;
     let access = access_of(action, rank, cells);
-    if !agrees_with(item, access) {
+    if !agrees_with(turn.item, access) {
         return Outcome::Refused(Refusal {
             number: ACCESS_DIFFERS,
             place: at,
         });
     }
-    let group = group_of(progress.opened, item);
-    let next = command_progress(progress, header.ranks, item);
+    let group = group_of(turn.progress.opened, turn.item);
+    let next = command_progress(turn.progress, turn.header.ranks, turn.item);
     let access = access_number(access);
     perform(action, rank, at, group, registers, cells, pool, ends);
     set_control(control, rank, target);
@@ -89,9 +86,8 @@ fn take_transition(
         r ⌝ }
 {
     let item = turn.item;
-    let progress = turn.progress;
     let rank = item.rank;
-    let at = progress.at;
+    let at = turn.progress.at;
     let kind = item.kind;
     let source = transition.source;
     let target = transition.target;
@@ -132,9 +128,7 @@ pub fn take_command(
         (memory (now (control .exit)) (now (registers .exit)) (now (cells .exit)) (now (pool .exit)) (now (ends .exit)))
         r ⌝ }
 {
-    let item = turn.item;
-    let progress = turn.progress;
-    let rank = item.rank;
+    let rank = turn.item.rank;
     let own = registers_of(registers, rank);
     let read = read_transition(program, start, turn.header, rank, own);
     let TransitionRead::Read {
@@ -144,7 +138,7 @@ pub fn take_command(
     else {
         return Outcome::Refused(Refusal {
             number: WRONG_TRANSITION,
-            place: progress.at,
+            place: turn.progress.at,
         });
     };
     take_transition(transition, turn, control, registers, cells, pool, ends)

@@ -45,21 +45,20 @@ pub fn take_item(
         r ⌝ }
 {
     let item = turn.item;
-    let progress = turn.progress;
-    let at = progress.at;
+    let at = turn.progress.at;
     let kind = item.kind;
     let transition = item.transition as usize;
-    if !row_allows(progress.row, item) {
+    if !row_allows(turn.progress.row, item) {
         return Outcome::Refused(Refusal {
             number: BARRIER_ROW,
             place: at,
         });
     }
     if same_kind(kind, Kind::Popa) {
-        return take_fetch(item, progress, cells, pool, ends);
+        return take_fetch(item, turn.progress, cells, pool, ends);
     }
     if same_kind(kind, Kind::Popb) {
-        return take_delivery(item, progress, cells, pool, ends);
+        return take_delivery(item, turn.progress, cells, pool, ends);
     }
     if transition >= TRANSITIONS {
         return Outcome::Refused(Refusal {
