@@ -1,6 +1,7 @@
--- The program's promise, from the listing's: the bytes listed are among those lent, and what was read of the files lists as they do.
+-- What the listing's promise tells the program: the bytes listed are among those lent, and every status is one of the four.
 use Prim.Native.Nat.{ℕ, _≤_}
 use mathlib.Core.Path.{_≡_, sym, subst, ap, _∙_}
+use mathlib.Core.Bool.{Bool, true, false}
 use mathlib.Core.List.{List}
 use native.Mathlib.Omega.{arith}
 use lib.Dec.{leb}
@@ -9,15 +10,12 @@ use Rattle.model.specs.declared.Answer.{Answer}
 use Rattle.model.specs.declared.Answer.the-variants.{Order, Ring, Refused}
 use Rattle.model.specs.declared.Listed.{Listed}
 use Rattle.model.specs.Refusals.{Result, ok, refused}
-use Rattle.model.specs.Bytes.{AreBytes}
 use Rattle.model.specs.Checks.{Accepted, accept, verdictOn, answered, fill}
 use Rattle.model.specs.Listings.{Listing, listingIn, listing, listingOf, refusedLine, printed, printedOf}
 use Rattle.model.proofs.Laws.{decided}
-use Rattle.list_run.specs.Statuses.{statusOf, notWritten, Status, written, unwritten}
-use Rattle.list_run.specs.Runs.{Whole, Runs}
-use Rattle.sizes.specs.Sizes.{maxListingBytes}
-use Rattle.sizes.proofs.Fronts.{the-same-listing}
-use Rattle.sizes.proofs.Listings.{listing-whole}
+use Rattle.list_run.specs.declared.Ran.{Ran}
+use Rattle.list_run.specs.Statuses.{statusOf, exitStatus, notWritten}
+use Rattle.list_run.specs.Runs.{listingRead, Runs}
 
 abbrev Fits : Listing → Type 0
 Fits l = l .result .length ≤ length (l .memory)
@@ -39,43 +37,33 @@ fits : (program start recorded memory : List ℕ) → Fits (listing program star
 unfolding listingIn
 fits program start recorded memory = printed-of-fits memory (accept program start recorded)
 
+-- What is printed lies in the lent bytes, and the status is the listing's.
+module _ (program start recorded memory : List ℕ) {text : List ℕ} {r : Listed}
+    (listed : record { result = r; memory = text } ≡ listing program start recorded memory) where
+  pub listing-fits : r .length ≤ length text
+  listing-fits = subst Fits (sym listed) (fits program start recorded memory)
+
+pub runs : (program start recorded memory : List ℕ) {text : List ℕ} {r : Listed} {status : ℕ} (ran : Ran) →
+    record { result = r; memory = text } ≡ listingRead program start recorded memory ran → status ≡ statusOf (r .answer) →
+    ran .status ≡ exitStatus (ran .written) status → Runs program start recorded memory text ran
+runs program start recorded memory ran listed is-status ends =
+    record {
+      writes = ap (λ (l : Listing). l .memory) listed;
+      ends =
+          subst (λ (l : Listing). ran .status ≡ exitStatus (ran .written) (statusOf (l .result .answer))) listed
+          (ends ∙ ap (exitStatus (ran .written)) is-status);
+    }
+
 -- Every status is one of the four.
 answer-known : (answer : Answer) → statusOf answer ≤ notWritten
 answer-known (Order count) = omega arith
 answer-known (Ring count) = omega arith
 answer-known (Refused r) = omega arith
 
-status-known : {answer : Answer} {status : ℕ} → Status answer status → status ≤ notWritten
-status-known {answer} (written h) = rw h (answer-known answer)
-status-known (unwritten h) = omega (arith, h)
+pub status-known : (written : Bool) {r : ℕ} (status : ℕ) → r ≡ exitStatus written status → status ≤ notWritten → r ≤ notWritten
+status-known true status is known = omega arith
+status-known false status is known = omega arith
 
--- Bytes that are as many as the longest listing has hold it whole.
-whole : (programFile startFile recordFile memory : List ℕ) {text : List ℕ} {r : Listed} {status : ℕ} →
-    record { result = r; memory = text } ≡ listing programFile startFile recordFile memory → Status (r .answer) status → AreBytes programFile →
-    maxListingBytes ≤ length memory → Whole (accept programFile startFile recordFile) memory text status
-whole programFile startFile recordFile memory {status = status} listed ends bound enough =
-    let is = listed ∙ listing-whole programFile startFile recordFile memory bound enough in
-    record {
-      writes = ap (λ (l : Listing). l .memory) is;
-      ends = subst (λ (l : Listing). Status (l .result .answer) status) is ends;
-    }
-
-module _ (program start recorded memory : List ℕ) {text : List ℕ} {r : Listed}
-    (listed : record { result = r; memory = text } ≡ listing program start recorded memory) where
-  pub listing-fits : r .length ≤ length text
-  listing-fits = subst Fits (sym listed) (fits program start recorded memory)
-
-  pub runs : {status : ℕ} → Status (r .answer) status → Runs program start recorded memory text status
-  runs {status} ends =
-      record {
-        lists =
-            λ programFile startFile recordFile p q w.
-            let same : record { result = r; memory = text } ≡ listing programFile startFile recordFile memory =
-            listed ∙ rw (p, q, w) (the-same-listing programFile startFile recordFile memory) in
-            record {
-              writes = ap (λ (l : Listing). l .memory) same;
-              ends = subst (λ (l : Listing). Status (l .result .answer) status) same ends;
-              enough = whole programFile startFile recordFile memory same ends;
-            };
-        known = status-known ends;
-      }
+pub run-known : {program start recorded memory text : List ℕ} {ran : Ran} → Runs program start recorded memory text ran → ran .status ≤ notWritten
+run-known {program} {start} {recorded} {memory} {ran = ran} promised =
+    status-known (ran .written) _ (promised .ends) (answer-known (listingRead program start recorded memory ran .result .answer))

@@ -1,2 +1,4 @@
 pub mod Statuses
+pub mod Arguments
 pub mod Runs
+pub mod Files

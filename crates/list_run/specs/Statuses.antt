@@ -1,6 +1,6 @@
 -- Exit statuses of the listing program.
 use Prim.Native.Nat.{ℕ}
-use mathlib.Core.Path.{_≡_}
+use mathlib.Core.Bool.{Bool, true, false}
 use Rattle.model.specs.declared.Answer.{Answer}
 use Rattle.model.specs.declared.Answer.the-variants.{Order, Ring, Refused}
 
@@ -13,7 +13,7 @@ statusOf (Refused r) = 2
 abbrev pub notWritten : ℕ
 notWritten = 3
 
--- The status that the program ends with: the answer's, or that of output that could not be written.
-pub data Status (answer : Answer) (status : ℕ) : Type 0 where
-  written : status ≡ statusOf answer → Status answer status
-  unwritten : status ≡ notWritten → Status answer status
+-- The status that the program ends with, by whether its text was written: the text's own, or that of output that could not be written.
+abbrev pub exitStatus : (written : Bool) → (status : ℕ) → ℕ
+exitStatus true status = status
+exitStatus false status = notWritten
