@@ -20,6 +20,23 @@
 extern "C" {
 #endif
 
+/* The version of this header. The minor number is raised with each change of a signature;
+ * CHANGELOG.md says what each one changed. */
+#define LELLMUSU_VERSION "0.5.0"
+#define LELLMUSU_VERSION_MAJOR 0
+#define LELLMUSU_VERSION_MINOR 5
+#define LELLMUSU_VERSION_PATCH 0
+
+/* The same as one number, which can be compared: 500 for 0.5.0. */
+#define LELLMUSU_VERSION_NUMBER \
+    (LELLMUSU_VERSION_MAJOR * 10000 + LELLMUSU_VERSION_MINOR * 100 + LELLMUSU_VERSION_PATCH)
+
+/*
+ * Returns the LELLMUSU_VERSION_NUMBER of the library that is linked. Where it is not the header's,
+ * header and library are of different versions, and a call may be made with the wrong parameters.
+ */
+uint32_t lellmusu_version(void);
+
 /* What the functions return: an order, a ring, or the number of a refusal in document 01's table
  * or, from 17 on, in document 02, with their words. Before each colon stands what *value counts.
  * Bytes and items are counted from 0. */

@@ -14,6 +14,7 @@ ghost use Rattle.model.specs.Starts as starts;
 ghost use Rattle.model.specs.Listings as listings;
 ghost use Rattle.lellmusu.specs.Reported.{numberOf, valueOf, Reported};
 ghost use Rattle.lellmusu.specs.Told.{filledNumber, filledValue, textLength, Tells, Prints};
+ghost use Rattle.lellmusu.specs.Versions.{version};
 
 // What the entry returns for an order and for a ring: no row of document 01's table has these numbers.
 const ORDER: u8 = 0;
@@ -22,6 +23,9 @@ const RING: u8 = 255;
 
 // What it returns where a slip or a start is written or read.
 const FILLED: u8 = 0;
+
+// The library's version, that of its header: 10,000 for each major number, 100 for each minor one.
+const VERSION: u32 = 500;
 
 // What an answer is, and the count of groups or the place, as numbers.
 fn number_of(answer: Answer) -> u8
@@ -182,4 +186,12 @@ pub extern "C" fn lellmusu_list(
     let answer = listed.answer;
     *value = text_length(answer, listed.length);
     number_of(answer)
+}
+
+// The library's version, for a program that was compiled with a header of its own.
+#[no_mangle]
+pub extern "C" fn lellmusu_version() -> u32
+    ensures { λ r. ⌜ r ≡ version ⌝ }
+{
+    VERSION
 }
