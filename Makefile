@@ -1,5 +1,15 @@
-# `make test` is every test and every proof; `make sample` lists the sample run; `make list_run` builds the listing program; `make bench` times the
-# whole check; `make library`, `make install` and `make recorder` are for whoever calls the check from C.
+## make sample     lists the run of samples/neighbour (another: make sample SAMPLE=order); at first
+##                 it proves and builds the listing program, which takes some minutes
+## make list_run   that program, target/programs/list_run
+## make library    the library that C programs link, target/staticlib/liblellmusu.a
+## make install    both, with header, pkg-config file and pages, below PREFIX=/usr/local; honours
+##                 DESTDIR, LIBDIR, CPPFLAGS, CFLAGS and LDFLAGS
+## make recorder   target/recorder/recorder, an example of a C program that calls the library
+## make test       every proof and every test, from nothing: it removes target/
+## make bench      times the whole check
+##
+## Parts of the test: second harness definitions edits first header-test recorder-test
+## list_run-test install-test
 
 SHELL := bash
 
@@ -14,15 +24,20 @@ HEADER := include/lellmusu.h
 RECORDER := target/recorder
 LISTING_LIBRARY := target/staticlib/liblist_run.a
 LIST_RUN := target/programs/list_run
+VERSIONS := target/programs/versions
 
 # The kit's C code for opening files.
-OS_CODE = $(dir $(shell rt doc))../lib/libos_c.a
+OS_CODE = "$$(dirname "$$(rt doc)")/../lib/libos_c.a"
 
-# Where `install` puts its files, and the version that the pkg-config file tells.
+# Where `install` puts its files, and the version, which is the header's.
 PREFIX ?= /usr/local
-VERSION := 0.1.0
+LIBDIR ?= $(PREFIX)/lib
+VERSION := $(shell sed -n 's/^.define LELLMUSU_VERSION "\(.*\)"$$/\1/p' $(HEADER))
 
-# How C is compiled here.
+# The sample run that is listed.
+SAMPLE ?= neighbour
+
+# How C is compiled here. What CPPFLAGS, CFLAGS and LDFLAGS say comes after.
 C_FLAGS := -std=c11 -Wall -Wextra -Werror
 CXX_FLAGS := -std=c++11 -Wall -Wextra -Werror
 ADDRESS := -g -O1 -fsanitize=address,undefined -fno-sanitize-recover=all
@@ -34,14 +49,18 @@ COUNT ?= 20000
 
 # What `test` runs after rt's own gate, in two lanes beside each other: what asks the prover, and what does not.
 PROVER_PARTS := definitions edits
-OTHER_PARTS := second harness first header-test recorder-test list_run-test
+OTHER_PARTS := second harness first header-test recorder-test list_run-test install-test
 
 # How many crates of one level, or edits, rt proves at a time. It waits for the last of them, so more than the machine has processors leave less of it
 # idle.
 export RT_JOBS ?= 8
 
-.PHONY: test sample bench second harness definitions edits first programs library install recorder recorder-test recorder-thread header
-.PHONY: list_run list_run-test header-test
+.PHONY: help test sample bench second harness definitions edits first programs library install recorder recorder-test recorder-thread header
+.PHONY: list_run list_run-test install-test header-test
+
+# What can be made, as the top of this file says.
+help:
+	@sed -n 's/^## \{0,1\}//p' Makefile
 
 # Every proof and must-fail edit from nothing, then the tests, which stand on what was proved. Each part's seconds are printed, and the gate's
 # last line is the last line.
@@ -83,9 +102,11 @@ definitions: programs
 edits:
 	tests/edits/run
 
-# The whole check, and the listing program, as static libraries, proved again only if a crate has changed.
+# The whole check, and the listing program, as static libraries, proved again only if a crate has changed. Of each crate one line is shown; the whole
+# log is kept beside the libraries, and shown if something is not proved.
 $(LIBRARY) $(LISTING_LIBRARY): target/staticlib/lib%.a: crates.txt $(shell find crates -type f -not -path '*/must-fail/*')
-	rt staticlib $*
+	@mkdir -p $(@D)
+	@set -o pipefail; rt staticlib $* 2>&1 | tee $(@D)/$*.log | grep --line-buffered '^rt: ' || { cat $(@D)/$*.log; exit 1; }
 
 # The harness with the library's check in place of the second program's: the corpus, generated inputs, small records judged by searching all plain
 # runs, its answers on records of one trace beside each other, and the verdict on every pair of map and kind, against the table that the second program
@@ -104,32 +125,43 @@ bench: $(LIBRARY)
 	cd tests/bench && cargo build --release --quiet
 	$(PROGRAMS)/bench
 
-# The listing of the sample run. It is a ring, whose status is 1.
+# The listing of a sample run, whichever answer it has.
 sample: list_run
-	@cd samples/neighbour && $(abspath $(LIST_RUN)) || [ $$? = 1 ]
+	@cd 'samples/$(SAMPLE)' && { ../../$(LIST_RUN) || [ $$? -lt 3 ]; }
 
 # The listing program: proved code, and C for the exit status.
 list_run: $(LIST_RUN)
 $(LIST_RUN): programs/list_run.c $(LISTING_LIBRARY)
-	@mkdir -p $(dir $@)
-	$(CC) $(C_FLAGS) -O2 -o $@ $^ $(OS_CODE)
+	@mkdir -p $(@D)
+	$(CC) $(C_FLAGS) -O2 $(CPPFLAGS) $(CFLAGS) $(LDFLAGS) -o $@ $^ $(OS_CODE)
 
-# The listing program on the corpus, and on files that are missing or too long.
+# The listing program on the corpus and the samples, on files that are missing, not to be read or too long, and with arguments.
 list_run-test: $(LIST_RUN)
 	tests/list_run/run $(LIST_RUN)
 
 # The library that C programs link.
 library: $(LIBRARY)
 
-# Library, header and pkg-config file, and the listing program with its page, below PREFIX, which DESTDIR goes before while they are put there.
-install: UNDER = $(DESTDIR)$(abspath $(PREFIX))
+# Library, header and pkg-config file, the listing program, its page and what its files hold, below PREFIX, which DESTDIR goes before while they are
+# put there.
 install: library list_run
-	install -d $(UNDER)/lib/pkgconfig $(UNDER)/include $(UNDER)/bin $(UNDER)/share/man/man1
-	install -m 644 $(LIBRARY) $(UNDER)/lib
-	install -m 644 $(HEADER) $(UNDER)/include
-	install $(LIST_RUN) $(UNDER)/bin
-	install -m 644 docs/list_run.1 $(UNDER)/share/man/man1
-	sed -e 's|@PREFIX@|$(abspath $(PREFIX))|' -e 's|@VERSION@|$(VERSION)|' lellmusu.pc.in >$(UNDER)/lib/pkgconfig/lellmusu.pc
+	set -e; prefix=$$(realpath -ms -- '$(PREFIX)'); libdir=$$(realpath -ms -- '$(LIBDIR)'); \
+	under='$(DESTDIR)'$$prefix; lib='$(DESTDIR)'$$libdir; doc=$$under/share/doc/lellmusu; \
+	install -d "$$lib/pkgconfig" "$$under/include" "$$under/bin" "$$under/share/man/man1" "$$doc"; \
+	install -m 644 $(LIBRARY) "$$lib"; \
+	install -m 644 $(HEADER) "$$under/include"; \
+	install $(LIST_RUN) "$$under/bin"; \
+	install -m 644 docs/list_run.1 "$$under/share/man/man1"; \
+	install -m 644 docs/FORMATS.md docs/RECORDER.md CHANGELOG.md "$$doc"; \
+	sed -e "s|@PREFIX@|$$prefix|" -e "s|@LIBDIR@|$$libdir|" -e 's|@VERSION@|$(VERSION)|' lellmusu.pc.in >"$$lib/pkgconfig/lellmusu.pc"
+
+# What is installed, in folders with a space too, and that header, library, listing program and pages have one version.
+$(VERSIONS): tests/install/versions.c $(HEADER) $(LIBRARY)
+	@mkdir -p $(@D)
+	$(CC) $(C_FLAGS) $(CPPFLAGS) $(CFLAGS) $(LDFLAGS) -Iinclude -o $@ $< $(LIBRARY)
+
+install-test: $(VERSIONS) $(LIST_RUN)
+	tests/install/run $(VERSIONS) $(LIST_RUN)
 
 # The example recorder, as it is used, and with sanitizers for its test.
 recorder: $(RECORDER)/recorder
@@ -138,7 +170,7 @@ $(RECORDER)/address: SANITIZERS := $(ADDRESS)
 $(RECORDER)/thread: SANITIZERS := $(THREAD)
 $(RECORDER)/recorder $(RECORDER)/address $(RECORDER)/thread: $(wildcard examples/recorder/*.[ch]) $(HEADER) $(LIBRARY)
 	@mkdir -p $(RECORDER)
-	$(CC) $(C_FLAGS) $(SANITIZERS) -Iinclude -pthread -o $@ $(filter %.c,$^) $(LIBRARY)
+	$(CC) $(C_FLAGS) $(SANITIZERS) $(CPPFLAGS) $(CFLAGS) $(LDFLAGS) -Iinclude -pthread -o $@ $(filter %.c,$^) $(LIBRARY)
 
 # What the header says of lent memory, on the sample run.
 $(RECORDER)/lent: tests/recorder/lent.c $(HEADER) $(LIBRARY)
