@@ -4,8 +4,8 @@
 #include <stdint.h>
 
 /* Reads run.prg, run.sta and run.rec in the folder where the program is started, prints the listing
- * and returns the exit status: 0 for an order, 1 for a ring, 2 for a refusal, 3 where the output
- * could not be written. */
+ * and returns the exit status: 0 for an order, 1 for a ring, 2 for a refusal, 3 where nothing was
+ * listed. It looks at the process's own arguments first. */
 uint8_t lellmusu_list_run(void);
 
 int main(void)
