@@ -1,11 +1,10 @@
 -- What words ask for, by what comparing the second one tells.
-use Prim.Native.Nat.{ℕ, _<_}
+use Prim.Native.Nat.{ℕ}
 use mathlib.Core.Path.{_≡_}
 use mathlib.Core.Bool.{Bool, true, false}
 use mathlib.Core.List.{List}
 use native.Mathlib.Omega.{arith}
-use Rattle.list_run.specs.declared.arguments.Asked.{Asked}
-use Rattle.list_run.specs.declared.arguments.Asked.the-variants.{Listing, Help, Version, Other}
+use Rattle.list_run.specs.declared.arguments.Asked.the-variants.{Help, Version, Other}
 use Rattle.list_run.specs.Arguments.{helpWord, versionWord, Asks, help, version, unknown}
 
 -- Whether two words are the same, as `check::same` answers.

@@ -15,7 +15,7 @@ use Rattle.model.specs.Listings.{Listing, listingIn, listing, listingOf, refuse
 use Rattle.model.proofs.Laws.{decided}
 use Rattle.list_run.specs.declared.Ran.{Ran}
 use Rattle.list_run.specs.Statuses.{statusOf, exitStatus, notWritten}
-use Rattle.list_run.specs.Runs.{listingRead, Runs}
+use Rattle.list_run.specs.Runs.{listingRead, Ends, Runs}
 
 abbrev Fits : Listing → Type 0
 Fits l = l .result .length ≤ length (l .memory)
@@ -50,7 +50,7 @@ runs program start recorded memory ran listed is-status ends =
     record {
       writes = ap (λ (l : Listing). l .memory) listed;
       ends =
-          subst (λ (l : Listing). ran .status ≡ exitStatus (ran .written) (statusOf (l .result .answer))) listed
+          subst (λ (l : Listing). Ends (l .result .answer) ran) listed
           (ends ∙ ap (exitStatus (ran .written)) is-status);
     }
 

@@ -3,6 +3,7 @@ use Prim.Native.Nat.{ℕ, _≤_}
 use mathlib.Core.Path.{_≡_}
 use mathlib.Core.List.{List}
 use lib.ListN.{length, take}
+use Rattle.model.specs.declared.Answer.{Answer}
 use Rattle.model.specs.Listings.{Listing, listing}
 use Rattle.list_run.specs.declared.Ran.{Ran}
 use Rattle.list_run.specs.Statuses.{statusOf, exitStatus}
@@ -18,7 +19,11 @@ abbrev pub listingRead : (program start recorded memory : List ℕ) → Ran → 
 listingRead program start recorded memory ran =
     listing (take (ran .program) program) (take (ran .start) start) (take (ran .recorded) recorded) memory
 
--- The lent bytes hold that listing at the end, and the exit status is that of its answer, by whether it was written.
+-- The exit status is that of an answer, by whether its listing was written.
+abbrev pub Ends : Answer → Ran → Type 0
+Ends answer ran = ran .status ≡ exitStatus (ran .written) (statusOf answer)
+
+-- The lent bytes hold that listing at the end, and the exit status is that of its answer.
 pub record Runs (program start recorded memory text : List ℕ) (ran : Ran) : Type 0 where
   pub writes : text ≡ listingRead program start recorded memory ran .memory
-  pub ends : ran .status ≡ exitStatus (ran .written) (statusOf (listingRead program start recorded memory ran .result .answer))
+  pub ends : Ends (listingRead program start recorded memory ran .result .answer) ran

@@ -1,6 +1,5 @@
 // Fronts of files, read with a word on standard error about each that cannot be.
 ghost use Prim.Native.Nat.{_≤_};
-ghost use mathlib.Core.Path.{_≡_};
 ghost use lib.ListN.{length};
 
 // The files of a run, in the folder where the program is started, as standard error names them: the program's name, and the file's.

@@ -1,6 +1,5 @@
 -- `front`: all bytes where the count is more, and else the count.
 use native.Mathlib.Omega.{arith}
-use borrow.Author.Tests.{ltb-false, ltb-true}
 use Rattle.list_run.proofs.Fronts.{front-all, front-part}
 use Rattle.list_run.proofs.front.Statement.{statement}
 use Rattle.list_run.proofs.front.Tie as tie

@@ -1,7 +1,4 @@
 -- `asked_by`: no arguments, more than one, or one that is known or not.
-use Prim.Native.Nat.{_<_}
-use mathlib.Core.Path.{_≡_}
-use mathlib.Core.Bool.{true, false}
 use native.Mathlib.Omega.{arith}
 use borrow.Author.Needs.{needs}
 use Rattle.list_run.specs.Arguments.{no-arguments, more}

@@ -1,5 +1,5 @@
 -- `is_link`: the path's array stays as long as it is, so that its last byte can be set to 0.
-use Prim.Native.Nat.{_≤_, _-_}
+use Prim.Native.Nat.{_-_}
 use mathlib.Core.Path.{_≡_}
 use native.Mathlib.Omega.{arith}
 use lib.ListN.{length}

@@ -1,7 +1,6 @@
 -- `read_all`: what was read lies within the bytes, and each turn reads some more.
 use Prim.Native.Nat.{_≤_, _-_}
 use mathlib.Core.Path.{_≡_}
-use native.Mathlib.Omega.{arith}
 use lib.ListN.{length}
 use borrow.Author.Needs.{needs}
 use Rattle.list_run.proofs.files.read_all.Statement.{statement}
