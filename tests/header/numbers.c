@@ -70,7 +70,6 @@ static const struct number lengths[] = {
        "the count; then per group; then for each cell not 0"),
     IS(LELLMUSU_START_BYTES, RANKS * (8 + 2 * CELLS),
        "#103: for each rank an eight-byte map, then a two-byte value for each standing bit"),
-    /* The version's macros: here, a line each, if they are numbers. */
 };
 
 /* Run b: its program and record, the lists that the check fills, its slip and its listing; and the
@@ -194,7 +193,24 @@ static bool read_start(void)
                4, last, sizeof last);
 }
 
-/* The functions that the header declares. */
+/* The library's version is the header's, as one number. */
+static bool version(void)
+{
+    return lellmusu_version() == LELLMUSU_VERSION_NUMBER &&
+           LELLMUSU_VERSION_NUMBER == 10000 * LELLMUSU_VERSION_MAJOR + 100 * LELLMUSU_VERSION_MINOR +
+                                          LELLMUSU_VERSION_PATCH;
+}
+
+/* The text is its three parts. */
+static bool version_text(void)
+{
+    char text[32];
+    snprintf(text, sizeof text, "%d.%d.%d", LELLMUSU_VERSION_MAJOR, LELLMUSU_VERSION_MINOR,
+             LELLMUSU_VERSION_PATCH);
+    return strcmp(text, LELLMUSU_VERSION) == 0;
+}
+
+/* The functions that the header declares, and its version. */
 static const struct {
     const char *name;
     bool (*is_right)(void);
@@ -205,7 +221,13 @@ static const struct {
     {"lellmusu_list", list},
     {"lellmusu_write_start", write_start},
     {"lellmusu_read_start", read_start},
-    /* The version's function, and its macros that are texts: here, a line each. */
+    /* The papers know no version: it is held to itself, part by part. */
+    {"lellmusu_version", version},
+    {"LELLMUSU_VERSION", version_text},
+    {"LELLMUSU_VERSION_MAJOR", version_text},
+    {"LELLMUSU_VERSION_MINOR", version_text},
+    {"LELLMUSU_VERSION_PATCH", version_text},
+    {"LELLMUSU_VERSION_NUMBER", version},
 };
 
 /* One byte of run b's program or record that is another. */
