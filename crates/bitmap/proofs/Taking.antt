@@ -1,6 +1,6 @@
 -- Taking the lowest number, by cases as the code meets them.
 use Prim.Native.Nat.{ℕ, _+_, _*_, _≤_, _<_}
-use mathlib.Core.Path.{_≡_, refl, ap, sym, _∙_}
+use mathlib.Core.Path.{_≡_, ap, sym, _∙_}
 use mathlib.Core.List.{List}
 use mathlib.Core.Option.{Option, some, none}
 use native.Mathlib.Omega.{arith}
@@ -33,17 +33,9 @@ number-found : (lowest : Option ℕ) {n : ℕ} → found lowest ≡ Number n →
 number-found none e = let z : _≡_ {A = ℕ} 0 1 = cc in absurd (omega arith)
 number-found (some m) e = cc
 
-empty-found : (lowest : Option ℕ) → found lowest ≡ Empty → lowest ≡ none
-empty-found none e = refl
-empty-found (some m) e = let z : _≡_ {A = ℕ} 0 1 = cc in absurd (omega arith)
-
 pub found-number : (b : List ℕ) {n : ℕ} → foundIn b ≡ Number n → lowestIn b ≡ some n
 unfolding foundIn
 found-number b = number-found (lowestIn b)
-
-pub found-empty : (b : List ℕ) → foundIn b ≡ Empty → lowestIn b ≡ none
-unfolding foundIn
-found-empty b = empty-found (lowestIn b)
 
 module _ (b : List ℕ) where
   none-taken : firstWord b ≡ none → Taken b b Empty

@@ -2,7 +2,7 @@
 use Prim.Native.Nat.{ℕ, _<_}
 use mathlib.Core.Path.{_≡_, sym, _∙_, subst}
 use mathlib.Core.List.{List}
-use mathlib.Core.Logic.{_↔_, _⊎_}
+use mathlib.Core.Logic.{_↔_}
 use Rattle.model.specs.declared.Item.{Item}
 use Rattle.model.specs.Refusals.{ok}
 use Rattle.model.specs.Choice.{Each}
@@ -24,7 +24,6 @@ use Rattle.model.proofs.Accepted.{AcceptedParts, accepted-parts}
 use Rattle.acceptance.proofs.Acceptance.{record-accepted-iff-run}
 use Rattle.ordering.proofs.Edges.{edges-agree}
 use Rattle.ordering.specs.Orders.{TopologicalOrder, ShortestRing}
-use Rattle.ordering.proofs.Verdicts.{ordered-or-cyclic}
 use Rattle.ordering.proofs.Runs.{run-order, run-ring}
 use Rattle.record_facts.specs.Transfers.{MarksAgree}
 use Rattle.record_facts.proofs.FactsHold.{facts}
@@ -96,11 +95,6 @@ module _ (program start recorded : List ℕ) (a : Accepted) (bytes : AreBytes re
   pub ring-shortest : (ring : List ℕ) → verdictOn (a .run) ≡ cyclic ring → ShortestRing (a .run .last .opened) (edgesOf (a .run .events)) ring
   unfolding verdictOn
   ring-shortest = run-ring (a .run .last .opened) (a .run .events) below
-
-  -- One of the two always comes.
-  pub order-or-ring : ((groups : List ℕ) × (verdictOn (a .run) ≡ ordered groups)) ⊎ ((cycle : List ℕ) × (verdictOn (a .run) ≡ cyclic cycle))
-  unfolding verdictOn
-  order-or-ring = ordered-or-cyclic (a .run .last .opened) (edgesOf (a .run .events))
 
   -- Demand 3. "For every readable program and every accepted record: a ring is returned exactly when no plain run of the program from the same start
   -- has the record's trace; otherwise the returned order is a plain run with that trace, the record's value at each access, and the same last cells

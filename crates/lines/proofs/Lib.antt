@@ -1,3 +1,2 @@
 pub mod Spaced
 pub mod GroupLines
-pub mod Listed

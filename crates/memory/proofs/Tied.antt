@@ -11,7 +11,7 @@ use borrow.Author.Tests.{eqb-true, eqb-false}
 use Rattle.model.specs.Limits.{maxRanks}
 use Rattle.model.specs.Machine.{put, put₂}
 use Rattle.model.proofs.Laws.{decided, put-same, put-other}
-use Rattle.memory.specs.Tables.{Table, Size, Row, Rank, rowOf, rowAt, numberAt, stored, controlAt, controlStored, zeros}
+use Rattle.memory.specs.Tables.{Table, Size, Row, Rank, rowOf, rowAt, numberAt, stored, controlStored, zeros}
 use Rattle.memory.specs.Tied.{Controls, Holds}
 use Rattle.memory.proofs.Tables.{row-of-held, row-below, row-inside, number-inside, control-inside, control-stored-inside}
 use Rattle.memory.proofs.Stores.{shaped, number-put, zeros-shape, zeros-number}
@@ -41,9 +41,6 @@ pub holds-zeros : {Known : ℕ → Type 0} (size : Size) → Holds Known size (z
 holds-zeros size = record { shape = zeros-shape size; same = λ number index r k. sym (zeros-number size number index) }
 
 module _ {control : List ℕ} {f : ℕ → ℕ} (held : Controls control f) where
-  pub controls-at : (rank : ℕ) → Rank rank → controlAt control rank ≡ f rank
-  controls-at rank r = sym (held .same rank r)
-
   pub controls-stored : (rank state : ℕ) → Rank rank → Controls (controlStored control rank state) (put f rank state)
   controls-stored rank state r =
       let row : ℕ = rowOf maxRanks rank in

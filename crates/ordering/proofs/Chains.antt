@@ -26,14 +26,6 @@ pub reaches-trans : {events : List Event} {g k h : ℕ} → Reaches events g k �
 reaches-trans (same e) s = rw e s
 reaches-trans (step b r) s = step b (reaches-trans r s)
 
--- A chain of one or more edges: what a chain is, if it does not stay where it begins.
-abbrev pub Chain : List Event → ℕ → ℕ → Type 0
-Chain events g h = (k : ℕ) × HappensBefore events g k × Reaches events k h
-
-pub reaches-cases : {events : List Event} {g h : ℕ} → Reaches events g h → (g ≡ h) ⊎ Chain events g h
-reaches-cases (same e) = inl e
-reaches-cases (step b r) = inr (_, b, r)
-
 -- A transitive relation that each edge is in holds along every chain.
 module _ (events : List Event) (R : ℕ → ℕ → Type 0) (chains : (g k h : ℕ) → R g k → R k h → R g h)
     (holds : (g h : ℕ) → HappensBefore events g h → R g h) where

@@ -1,5 +1,5 @@
 -- Orders and cycles of the groups: along an order no walk closes, a cycle is a closed walk, and there is one shortest ring at most.
-use Prim.Native.Nat.{ℕ, suc, _≤_, _<_}
+use Prim.Native.Nat.{ℕ, suc, _≤_}
 use mathlib.Core.Path.{_≡_, refl, sym, ap}
 use mathlib.Core.List.{List, [], _∷_, _++_}
 use mathlib.Core.Option.{some}
@@ -7,17 +7,10 @@ use native.Mathlib.Omega.{arith}
 use lib.ListN.{length, getElem?}
 use Rattle.model.specs.HappensBefore.{Edge, _⟶_}
 use Rattle.model.specs.Lists.{_∈_, Precedes}
-use Rattle.model.proofs.Lists.{position, one-place, precedes-trans, precedes-irreflexive, pigeonhole}
+use Rattle.model.proofs.Lists.{precedes-trans, precedes-irreflexive, pigeonhole}
 use Rattle.ordering.specs.Walks.{Along, Closed}
 use Rattle.ordering.specs.Orders.{TopologicalOrder, Cycle, ComesFirst, end, less, equal, ShortestRing}
 use Rattle.ordering.proofs.Walks.{not-closed}
-
--- In an order each group has exactly one place.
-pub order-place : (groups : ℕ) (edges : List Edge) (l : List ℕ) → TopologicalOrder groups edges l → (g : ℕ) → g < groups →
-    (i : ℕ) × (getElem? l i ≡ some g) × ((j : ℕ) → getElem? l j ≡ some g → j ≡ i)
-order-place groups edges l order g h =
-    let (i, p) = position (order .each g h) in
-    (i, p, λ j q. one-place l (order .once) j i q p)
 
 -- Along the edges of an order no walk closes.
 pub order-acyclic : (groups : ℕ) (edges : List Edge) (l : List ℕ) → TopologicalOrder groups edges l → (walk : List ℕ) → ¬ Closed edges walk

@@ -1,13 +1,13 @@
 -- The verdict on the edges of a run, in the words of the relation: in an order each edge and each chain goes forward, a cycle goes along edges, and
 -- where some number rises along every edge the verdict is an order.
-use Prim.Native.Nat.{ℕ, suc, _<_, _≤_}
+use Prim.Native.Nat.{ℕ, _<_, _≤_}
 use mathlib.Core.Path.{_≡_, refl}
 use mathlib.Core.Bool.{Bool}
 use mathlib.Core.List.{List}
 use mathlib.Core.Logic.{_⊎_, inl, inr}
 use mathlib.Core.Option.{some}
 use native.Mathlib.Omega.{arith}
-use lib.ListN.{length, getElem?}
+use lib.ListN.{length}
 use Rattle.model.specs.Replay.{Event}
 use Rattle.model.specs.HappensBefore.{At, Follows, ProgramOrder, Conflict, HappensBefore, edgesOf, _⟶_}
 use Rattle.model.specs.Orders.{Verdict, ordered, cyclic, verdict}
@@ -64,12 +64,6 @@ module _ (groups : ℕ) (events : List Event) (below : (i : ℕ) (e : Event) →
 
     pub run-cycle : Cycle groups (edgesOf events) l
     run-cycle = run-ring .cycle
-
-    pub cycle-next : (i g h : ℕ) → getElem? l i ≡ some g → getElem? l (suc i) ≡ some h → HappensBefore events g h
-    cycle-next i g h p q = edges-agree events g h .0 (run-cycle .next i g h p q)
-
-    pub cycle-back : (i g h : ℕ) → suc i ≡ length l → getElem? l i ≡ some g → getElem? l 0 ≡ some h → HappensBefore events g h
-    cycle-back i g h e p q = edges-agree events g h .0 (run-cycle .back i g h e p q)
 
   -- Where some number rises along every edge, the verdict is an order.
   pub rising-run : (φ : ℕ → ℕ) → ((g h : ℕ) → HappensBefore events g h → φ g < φ h) → (l : List ℕ) × (verdict groups (edgesOf events) ≡ ordered l)

@@ -4,7 +4,7 @@ use mathlib.Core.Path.{_≡_, sym, ap, ap₂, _∙_}
 use mathlib.Core.List.{List, _++_}
 use native.Mathlib.Omega.{arith}
 use lib.Count.{ones}
-use lib.ListN.{length, drop, length-append, length-drop}
+use lib.ListN.{length, drop, length-drop}
 use borrow.Rule.Slice.PartMut.{midOf, putMid}
 use Rattle.model.specs.Limits.{mapSize, maxCells}
 use Rattle.model.specs.Bytes.{bigEndianBytes}
@@ -40,9 +40,6 @@ module _ (readings : List ℕ) {map count : ℕ} (map-is : map ≡ mapOf reading
       mapped-is : mapped ≡ front ++ rest
       unfolding fill
       mapped-is = map-put
-
-      pub values-room : mapSize ≤ length mapped
-      values-room = rw mapped-is (omega (arith, length-append front rest, big-length mapSize map))
 
       pub rank-put : {values words : List ℕ} → values ≡ fill (valuesOf map readings) noValues →
           words ≡ wordsWritten (midOf mapSize (length mapped - mapSize) mapped) 0 values count →
