@@ -39,7 +39,7 @@ def read(path):
 
 def clauses(text):
     """The parts of a .rt file that are antt: `ghost use` lines, and the braces of clauses. As (start, end)."""
-    for m in re.finditer(r"^[ \t]*ghost use [^\n]*$", text, re.M):
+    for m in re.finditer(r"^[ \t]*ghost use [^;]*;", text, re.M):
         yield m.start(), m.end()
     for m in re.finditer(r"^[ \t]*(?:requires|ensures)\*?(?: \w+)? \{", text, re.M):
         depth, at = 1, m.end()

@@ -6,10 +6,10 @@ ghost use Rattle.happens_before.specs.Drawing.{
   accessed,
   added,
   between,
-  fromName,
-  fromEach,
-  programInto,
-  conflictsInto,
+  from_name,
+  from_each,
+  program_into,
+  conflicts_into,
 };
 
 use crate::numbers::number_at;

@@ -3,10 +3,10 @@
 ghost use Rattle.std.specs.Prelude.{◌≡◌};
 ghost use Rattle.memory.specs.Tables.{
   row_of,
-  controlAt,
-  controlStored,
-  cellsSize,
-  registersSize,
+  control_at,
+  control_stored,
+  cells_size,
+  registers_size,
   row_at,
   number_at,
   stored,
