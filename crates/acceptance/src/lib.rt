@@ -1,1 +1,2 @@
 // Theorems over the definitions alone: which records the replay accepts.
+#![tactic(auto)]

@@ -1,5 +1,7 @@
 // A set of numbers below 1,024 as bits: bit n % 64 of word n / 64 stands for n. The last word is the summary: its bit w stands where word w is not 0.
 // So the lowest number is found from two words.
+#![tactic(auto)]
+
 ghost use Rattle.std.specs.Prelude.{◌≡◌};
 ghost use Rattle.bitmap.specs.Bitmaps.{inserted, lowest_bit, Taken};
 

@@ -1,5 +1,7 @@
 // Lists by key through one array of links, the newest member first. Members and heads are named by their number plus 1, and 0 names none; so cleared
 // arrays are empty lists. Members are put in rising, so that links fall.
+#![tactic(auto)]
+
 ghost use Rattle.std.specs.Prelude.{◌≡◌};
 ghost use Rattle.chains.specs.Chains.{Pushed, older_in};
 

@@ -1,4 +1,6 @@
 // The whole check: program, start and record are read, the record is replayed, and its arrows come to an order or a ring.
+#![tactic(auto)]
+
 mod conclusion;
 
 ghost use Rattle.demands.specs.Entries.{numbers, bytes};

@@ -1,4 +1,6 @@
 // A command item: its transition is read and judged, its action is done, and its rank moves on.
+#![tactic(auto)]
+
 mod actions;
 
 ghost use Rattle.machine.specs.Arrays.{memory};

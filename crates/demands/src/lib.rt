@@ -1,1 +1,2 @@
 // Theorems alone: the three demands of what the check answers. See specs/Demands.antt.
+#![tactic(auto)]

@@ -1,5 +1,7 @@
 // The entries of all transfers that wait, in one pool. An entry is named by the number of the item that issued it, plus 1, and 0 names none. It keeps
 // its place in the pool from issue to delivery. Outside the pool a read answers 0 and a store changes nothing.
+#![tactic(auto)]
+
 ghost use Rattle.std.specs.Prelude.{◌≡◌, ◌<◌};
 ghost use Rattle.memory.specs.Tables.{number_at, stored};
 ghost use Rattle.entries.specs.Entries.{pool_size, address_at, request_at, delivery_at, address_stored, request_stored};

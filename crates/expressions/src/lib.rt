@@ -1,5 +1,7 @@
 // Expressions in prefix form, read and evaluated at once: a token's operands are expressions again, and the count of tokens that may still be read
 // falls with each. The program's reader drops the value; the replay takes it.
+#![tactic(auto)]
+
 mod tokens;
 pub mod value;
 

@@ -1,5 +1,7 @@
 // Fields read at a place of a byte string, in one answer wide enough for all: the number and the place after it, or the refusal. Every function
 // equals its definition, on every byte string.
+#![tactic(auto)]
+
 ghost use Rattle.std.specs.Prelude.{◌≡◌, ◌+◌, ◌*◌, ltb};
 ghost use Rattle.model.specs.Choice.{between, bit};
 ghost use Rattle.model.specs.Bytes.{byte, word};

@@ -1,4 +1,6 @@
 // The first item of each group of a record: its number, and its place in the record's bytes, where it is read again.
+#![tactic(auto)]
+
 ghost use Rattle.std.specs.Prelude.{◌≡◌};
 ghost use Rattle.first_items.specs.Firsts.{noted_under, noted, first_items, first_of};
 

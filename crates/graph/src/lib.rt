@@ -1,4 +1,6 @@
 // Arrows between groups in arrays: a row of two group numbers for each, from and to.
+#![tactic(auto)]
+
 ghost use Rattle.std.specs.Prelude.{◌≡◌, min};
 ghost use Rattle.model.specs.Limits.{max_edges};
 ghost use Rattle.graph.specs.Edges.{source_at, target_at, groups_in};

@@ -1,4 +1,6 @@
 // Happens-before between groups, drawn item by item from what the replay tells of each.
+#![tactic(auto)]
+
 mod arrows;
 mod keeping;
 mod numbers;

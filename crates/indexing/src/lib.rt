@@ -1,4 +1,6 @@
 // What placing and ring look up: an entry by group, the arrows that come from each group, as lists, and how many lead into each.
+#![tactic(auto)]
+
 ghost use Rattle.std.specs.Prelude.{◌≡◌};
 ghost use Rattle.model.specs.Choice.{numbers_from};
 ghost use Rattle.indexing.specs.Entries.{entry_at};

@@ -1,4 +1,6 @@
 // The fields of an item. A field is there only where its map bit stands: else it is 0 and takes no byte.
+#![tactic(auto)]
+
 ghost use Rattle.std.specs.Prelude.{◌≡◌};
 ghost use Rattle.fields.specs.Fields.{field_of};
 ghost use Rattle.item_fields.specs.Optional.{rank_field, number_field, low_field, transition_field, cell_field, value_field};

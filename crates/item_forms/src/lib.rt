@@ -1,4 +1,6 @@
 // The form of an item: its map byte against its kind byte. This is the only code that compares a map with a kind; whoever reads an item asks here.
+#![tactic(auto)]
+
 ghost use Rattle.std.specs.Prelude.{◌≡◌};
 ghost use Rattle.model.specs.ItemForms.{item_form};
 

@@ -1,4 +1,6 @@
 // The verdict on a replayed record, from what the replay tells of each item.
+#![tactic(auto)]
+
 ghost use Rattle.std.specs.Prelude.{◌≡◌};
 ghost use Rattle.verdicts.specs.Judged.{judged_as};
 ghost use Rattle.judging.specs.Told.{verdict_told};

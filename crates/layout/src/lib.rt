@@ -1,5 +1,7 @@
 // The text of a listing, line by line into lent bytes. What does not fit is counted all the same, so that the length is known before anything is
 // written.
+#![tactic(auto)]
+
 mod cells;
 mod groups;
 mod line;

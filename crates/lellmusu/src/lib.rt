@@ -1,4 +1,6 @@
 // Check, slip, listing and start for a program in another language that links the static library.
+#![tactic(auto)]
+
 ghost use Rattle.std.specs.Prelude.{◌≡◌};
 ghost use Rattle.model.specs.Slips as slips;
 ghost use Rattle.model.specs.Starts as starts;

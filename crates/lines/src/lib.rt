@@ -1,5 +1,7 @@
 // Lines of a word and numbers, and the lines of a listing, each written into the rest of lent bytes. A writer answers how many bytes it wrote: its whole
 // line, or none where that does not fit, and then the bytes are untouched. The length of a line can be asked for before it is written.
+#![tactic(auto)]
+
 mod kinds;
 pub mod numbered;
 

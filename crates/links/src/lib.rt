@@ -1,4 +1,6 @@
 // Lists of entries that run through the pool, two for each queue of each rank, and where an entry stands in one.
+#![tactic(auto)]
+
 pub mod lists;
 
 use model::{QUEUES, RANKS};

@@ -1,5 +1,7 @@
 // The listing program: it reads a run's program, start and record from their files, prints the listing, and answers the exit status. What it is asked
 // by its arguments comes first.
+#![tactic(auto)]
+
 mod arguments;
 mod files;
 mod output;

@@ -1,4 +1,6 @@
 // The listing of a run: the check's verdict, its groups and the last cells as text, or the refusal.
+#![tactic(auto)]
+
 mod printing;
 
 ghost use Rattle.std.specs.Prelude.{◌≡◌};

@@ -1,5 +1,7 @@
 // Writers of results into lent lists: into lists of sixteen-bit numbers, and into bytes, two an entry, big-endian. Nothing is written where there is
 // no room for all of it.
+#![tactic(auto)]
+
 ghost use Rattle.std.specs.Prelude.{◌≡◌, min, take};
 ghost use Rattle.model.specs.Refusals.{ok};
 ghost use Rattle.model.specs.Lending.{lend, answering};

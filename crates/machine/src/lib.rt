@@ -1,5 +1,7 @@
 // The machine's arrays as one memory, what an item leaves of it, and how it stands for a state of the definition. No functions: those that take an
 // item stand above.
+#![tactic(auto)]
+
 use items::rows::Progress;
 use model::{Header, Item, Refusal};
 

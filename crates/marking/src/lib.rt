@@ -1,4 +1,6 @@
 // The map of a list's values, and the values that a map marks, lowest bit first: what the writers of slips and of starts have in common.
+#![tactic(auto)]
+
 ghost use Rattle.std.specs.Prelude.{◌≡◌, min};
 ghost use Rattle.std.specs.Int.Count.{ones};
 ghost use Rattle.model.specs.Checks.{fill};

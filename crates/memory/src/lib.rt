@@ -1,5 +1,7 @@
 // The machine's cells, registers and control states in arrays, "held per rank". Ranks count from 1 and rows from 0. A read outside the arrays answers
 // 0, and a store there changes nothing, so that no function asks anything of its caller.
+#![tactic(auto)]
+
 ghost use Rattle.std.specs.Prelude.{◌≡◌};
 ghost use Rattle.memory.specs.Tables.{
   row_of,

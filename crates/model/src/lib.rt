@@ -1,5 +1,7 @@
 // The types and limits that every layer of the checker shares. Their meaning is in specs/; the limits stand there in Limits.antt too, and a proof
 // fails where the two differ. Every number of the formats has sixteen bits here, whether its field has one byte or two.
+#![tactic(auto)]
+
 pub mod refusals;
 
 // "Ranks 1 to N"; document 02, #105: "N goes to 16". What is held per rank has a row for each, rank 1 first.

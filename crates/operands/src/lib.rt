@@ -1,5 +1,7 @@
 // What a transition asks for by the values of its expressions: 18 for one that is missing, 8 for an operand outside its range, then 9 for an
 // assumption that fails.
+#![tactic(auto)]
+
 ghost use Rattle.std.specs.Prelude.{◌≡◌, ltb};
 ghost use Rattle.operands.specs.Operands.{kind_in, action_in, asked_in, transfer_in, ranged, in_ranges, transfer_by, reads, writes, load_by, store_by, assign_by, assume_by, action_by};
 ghost use Rattle.model.specs.Choice.{between};

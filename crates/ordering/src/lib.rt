@@ -1,1 +1,2 @@
 // Theorems alone: the arrows, the order and the ring of the definitions. See specs/Orders.antt.
+#![tactic(auto)]

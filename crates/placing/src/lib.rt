@@ -1,5 +1,7 @@
 // "The order: each time, of the unplaced groups whose arrows in all come from placed ones, take the lowest number", until none can be taken. Each
 // group and each arrow is looked at a constant number of times.
+#![tactic(auto)]
+
 mod releasing;
 mod turns;
 

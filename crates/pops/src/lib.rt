@@ -1,5 +1,7 @@
 // The pops: a fetch reads the source cell of the oldest request, a delivery writes the oldest delivery. A pop that names a remote rank chooses among
 // the entries for that rank.
+#![tactic(auto)]
+
 ghost use Rattle.std.specs.Prelude.{List, ℕ};
 ghost use Rattle.memory.specs.Tables.{Table};
 ghost use Rattle.entries.specs.Entries.{request_at, delivery_at};

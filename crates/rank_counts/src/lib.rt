@@ -1,4 +1,6 @@
 // Counts of command items, one for each rank: what a slip tells.
+#![tactic(auto)]
+
 ghost use Rattle.std.specs.Prelude.{◌≡◌, min};
 ghost use Rattle.model.specs.Limits.{max_items};
 ghost use Rattle.rank_counts.specs.Tallies.{ranks_told, tallied};

@@ -1,5 +1,7 @@
 // The replay of a record on a program from a start: the program is read, then the start, then the record, then its items are taken in turn, and at the
 // end no row is open and all queues are empty. It is the front of the check, the slip writer and the listing.
+#![tactic(auto)]
+
 ghost use Rattle.std.specs.Prelude.{◌≡◌};
 ghost use Rattle.replay.specs.Handed.{lent, end_of, TakesRecord, HandsOver};
 

@@ -1,5 +1,7 @@
 // The ring (document 02, #111): "Return one with as few groups as any closed walk along arrows has. Of several, take the one whose numbers, listed
 // from its lowest group, come first when compared place by place."
+#![tactic(auto)]
+
 mod arrows;
 mod nexts;
 mod numbers;

@@ -1,4 +1,6 @@
 // The items of a record in turn, each read at its place and taken, on the machine's arrays; and what is told of each.
+#![tactic(auto)]
+
 ghost use Rattle.runs.specs.Promise.{Runs};
 
 use entries::ENTRY;

@@ -1,4 +1,6 @@
 // The slip of a run: how many command items each rank has, written as bytes and read back.
+#![tactic(auto)]
+
 mod lengths;
 mod reader;
 

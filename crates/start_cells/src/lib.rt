@@ -1,4 +1,6 @@
 // Start bytes read into the machine's cells: for each rank in turn its map, and a value for each of the map's bits (document 02, #103).
+#![tactic(auto)]
+
 mod maps;
 mod rows;
 

@@ -1,4 +1,6 @@
 // Starts of a run: the readings that the cells hold before it, written as bytes and read back.
+#![tactic(auto)]
+
 mod entries;
 mod reader;
 mod writer;

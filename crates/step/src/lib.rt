@@ -1,4 +1,6 @@
 // One item of a record, taken or refused, the replay's step on the machine's arrays: 12 first, then by its part, a command, a fetch or a delivery.
+#![tactic(auto)]
+
 ghost use Rattle.std.specs.Prelude.{◌≡◌};
 ghost use Rattle.machine.specs.Arrays.{memory};
 ghost use Rattle.step.specs.Standing.{Steps};

@@ -1,4 +1,6 @@
 // What the replay tells of each item: a row of three numbers, its rank if it is a command, its group, and its access.
+#![tactic(auto)]
+
 ghost use Rattle.std.specs.Prelude.{◌≡◌};
 ghost use Rattle.trails.specs.Trails.{command_rank, told};
 

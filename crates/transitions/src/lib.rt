@@ -1,5 +1,7 @@
 // Reading a transition of a program, with the values of its expressions in a rank: one text that judges and evaluates. It equals its definition in
 // `model`, on every byte string.
+#![tactic(auto)]
+
 pub mod pair;
 pub mod transition;
 mod values;

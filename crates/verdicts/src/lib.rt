@@ -1,4 +1,6 @@
 // What the arrows come to: an order of all groups, or a ring of some.
+#![tactic(auto)]
+
 ghost use Rattle.std.specs.Prelude.{◌≡◌};
 ghost use Rattle.model.specs.Orders as orders;
 ghost use Rattle.graph.specs.Edges.{groups_in, graph_in};

@@ -1,0 +1,5 @@
+-- `Field::refusal`: the case that the match took is the definition's case. Assumes nothing.
+use Rattle.fields.proofs.Field.refusal.Goals as goal
+
+pub returns-in-Read : goal.returns-in-Read
+returns-in-Read c = rw c.self-in-Read-1.is
