@@ -2,4 +2,4 @@
 use Rattle.fields.proofs.Field.refusal.Goals as goal
 
 pub returns-in-Read : goal.returns-in-Read
-returns-in-Read c = rw c.self-in-Read-1.is
+returns-in-Read c = rw c.in-Read.is
