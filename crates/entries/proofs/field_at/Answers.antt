@@ -1,0 +1,13 @@
+-- `queues::entries::field_at` meets its contract: the tests are those of the definition.
+use Rattle.memory.proofs.Tables.{number_inside, number_beyond, number_outside}
+use Rattle.entries.proofs.field_at.Goals as goal
+
+pub returns-then-field-lt-ENTRY : goal.returns-then-field-lt-ENTRY
+returns-then-field-lt-ENTRY c =
+    number_inside _ _ _ _ c.row_of-row.ensures _ c.if-row-lt-ITEMS.true c.if-field-lt-ENTRY.true
+
+pub returns-else-field-lt-ENTRY : goal.returns-else-field-lt-ENTRY
+returns-else-field-lt-ENTRY c = number_beyond _ _ _ _ c.row_of-row.ensures _ c.if-field-lt-ENTRY.false
+
+pub returns-else-row-lt-ITEMS : goal.returns-else-row-lt-ITEMS
+returns-else-row-lt-ITEMS c = number_outside _ _ _ _ c.row_of-row.ensures _ c.if-row-lt-ITEMS.false
