@@ -19,7 +19,7 @@ pub const BITMAP: usize = WORDS + 1;
 pub type Bitmap = [u64; BITMAP];
 
 // The lowest number of a set, if there is one.
-#[derive(Drop)]
+#[derive(Clone, Copy)]
 pub enum Lowest {
     Number(u16),
     Empty,

@@ -12,7 +12,7 @@ use replay::{Acceptance, replay};
 use verdicts::answer_of;
 
 // How many entries the lent lists have, for groups and for cells.
-#[derive(Drop)]
+#[derive(Clone, Copy)]
 pub struct Room {
     pub groups: usize,
     pub cells: usize,

@@ -30,7 +30,7 @@ pub type Pool = [[u16; ENTRY]; ITEMS];
 
 // "A pending request now remembers its remote rank (for a read, the rank read from)"; "source rank and cell, then destination rank and cell"; and the
 // group of the command that asked.
-#[derive(Drop)]
+#[derive(Clone, Copy)]
 pub struct Request {
     pub remote: u16,
     pub source: Address,
@@ -39,7 +39,7 @@ pub struct Request {
 }
 
 // Of the remote rank: "and so does its delivery"; "destination and value"; and the group.
-#[derive(Drop)]
+#[derive(Clone, Copy)]
 pub struct Delivery {
     pub remote: u16,
     pub destination: Address,

@@ -18,14 +18,14 @@ use model::refusals::{PROGRAM_FORM, PROGRAM_LENGTH, PROGRAM_RANGE};
 use model::{Header, RankRegisters, Refusal, TOKENS};
 
 // An expression's value in a rank and the place after it, or the refusal.
-#[derive(Drop)]
+#[derive(Clone, Copy)]
 pub enum Valued {
     Read(Value, usize),
     Refused(Refusal),
 }
 
 // The same, with how many tokens may still be read of the fifteen.
-#[derive(Drop)]
+#[derive(Clone, Copy)]
 enum Evaluated {
     Read(Value, usize, u16),
     Refused(Refusal),

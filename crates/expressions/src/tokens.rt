@@ -11,7 +11,7 @@ use crate::value::Value;
 const VALUES: u32 = 65536;
 
 // A token that stands for a value by itself.
-#[derive(Drop)]
+#[derive(Clone, Copy)]
 pub enum Operand {
     Constant,
     Register,
@@ -20,7 +20,7 @@ pub enum Operand {
 }
 
 // A token that takes two operands.
-#[derive(Drop)]
+#[derive(Clone, Copy)]
 pub enum Operator {
     Sum,
     Difference,
@@ -30,7 +30,7 @@ pub enum Operator {
 }
 
 // What a token's byte says.
-#[derive(Drop)]
+#[derive(Clone, Copy)]
 pub enum Token {
     Operand(Operand),
     Operator(Operator),

@@ -10,7 +10,7 @@ ghost use Rattle.fields.specs.Fields.{field_of, field_refusal, judged_field};
 use model::Refusal;
 
 // A field's number and the place after it, or the refusal.
-#[derive(Drop)]
+#[derive(Clone, Copy)]
 pub enum Field {
     Read(u16, usize),
     Refused(Refusal),

@@ -14,7 +14,7 @@ pub const NOTED: usize = 2;
 pub type Firsts = [[usize; NOTED]; ITEMS];
 
 // The first item of a group, with its number.
-#[derive(Drop)]
+#[derive(Clone, Copy)]
 pub enum First {
     Item { item: Item, number: u16 },
     Nothing,

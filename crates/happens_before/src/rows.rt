@@ -15,7 +15,7 @@ pub const FEW_ITEMS: usize = 64;
 pub const FEW_ADDRESSES: usize = 2 * CELLS;
 
 // An item's rank if it is a command and else 0; its group; the number of the cell that it accesses, from 1, and else 0; and whether it writes there.
-#[derive(Drop)]
+#[derive(Clone, Copy)]
 pub struct Told {
     pub rank: usize,
     pub group: u16,

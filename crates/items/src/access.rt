@@ -6,7 +6,7 @@ ghost use Rattle.items.specs.Accesses.{access_in, held, access_told};
 use model::{Address, CELLS, Given, Item, RANKS};
 
 // The cell that an item accesses, with the value read or written there; most items access none.
-#[derive(Drop)]
+#[derive(Clone, Copy)]
 pub enum Accessed {
     Nothing,
     Cell {

@@ -7,7 +7,7 @@ use crate::kinds::same_kind;
 use model::{ITEMS, Item, Kind};
 
 // How far the replay is: the items taken, the groups opened by them, and the ranks in an open barrier row (0: no row is open).
-#[derive(Drop)]
+#[derive(Clone, Copy)]
 pub struct Progress {
     pub at: usize,
     pub opened: u16,

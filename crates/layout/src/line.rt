@@ -9,7 +9,7 @@ use model::Kind;
 use verdicts::answer_of;
 
 // A line by its fields, or no line.
-#[derive(Drop)]
+#[derive(Clone, Copy)]
 pub enum Line {
     Verdict {
         cyclic: bool,

@@ -12,21 +12,21 @@ pub const ENDS: usize = QUEUES * 4;
 pub type Ends = [[u16; ENDS]; RANKS];
 
 // The two lists of a queue.
-#[derive(Drop)]
+#[derive(Clone, Copy)]
 pub enum Part {
     Requests,
     Deliveries,
 }
 
 // Where an entry stands in its list: `previous` is the one before it, or 0 if it is the head.
-#[derive(Drop)]
+#[derive(Clone, Copy)]
 pub struct Position {
     pub previous: u16,
     pub entry: u16,
 }
 
 // The entry that a pop takes, if there is one.
-#[derive(Drop)]
+#[derive(Clone, Copy)]
 pub enum Oldest {
     Entry(Position),
     Empty,

@@ -2,7 +2,7 @@
 ghost use Rattle.list_run.specs.Arguments.{Asks};
 
 // A listing, where there are no arguments; help or the version, each where it is asked for alone; or something else, which is no use of the program.
-#[derive(Drop)]
+#[derive(Clone, Copy)]
 pub enum Asked {
     Listing,
     Help,

@@ -14,7 +14,7 @@ const NAME: usize = 10;
 const NAME_LENGTH: usize = 7;
 
 // How much was read of a file, and whether a read failed then.
-#[derive(Drop)]
+#[derive(Clone, Copy)]
 struct Read {
     count: usize,
     failed: bool,

@@ -32,7 +32,7 @@ const LISTING: usize = 44043;
 
 // What a run of the program came to: all that the operating system answered, which is how many bytes it read of each file and whether the listing was
 // written, and the exit status.
-#[derive(Drop)]
+#[derive(Clone, Copy)]
 pub struct Ran {
     pub program: usize,
     pub start: usize,

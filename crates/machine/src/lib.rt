@@ -7,7 +7,7 @@ use model::{Header, Item, Refusal};
 
 // An item in its turn: how far the replay is before it, the item, and the program's numbers. Progress stands first, so that it is copied in whole
 // words.
-#[derive(Drop)]
+#[derive(Clone, Copy)]
 pub struct Turn {
     pub progress: Progress,
     pub item: Item,
@@ -15,7 +15,7 @@ pub struct Turn {
 }
 
 // An item taken: how far the replay is then, the item's group and the number of its access; or the refusal.
-#[derive(Drop)]
+#[derive(Clone, Copy)]
 pub enum Outcome {
     Taken {
         next: Progress,

@@ -10,7 +10,7 @@ use fields::{Field, read_word, within};
 use model::{CELLS, Refusal};
 
 // Where the values end, or why they were not read.
-#[derive(Drop)]
+#[derive(Clone, Copy)]
 pub enum Ended {
     At(usize),
     Refused(Refusal),

@@ -55,14 +55,14 @@ pub const TOLD: usize = 3;
 pub type Trail = [[u16; TOLD]; ITEMS];
 
 // Why an input is refused: a number of document 01's table, and the place that its row asks for.
-#[derive(Drop)]
+#[derive(Clone, Copy)]
 pub struct Refusal {
     pub number: u8,
     pub place: usize,
 }
 
 // What the whole check answers: the count of groups listed, or the refusal.
-#[derive(Drop)]
+#[derive(Clone, Copy)]
 pub enum Answer {
     Order(usize),
     Ring(usize),
@@ -70,21 +70,21 @@ pub enum Answer {
 }
 
 // What writers and readers of slips and starts answer: how many entries of the lent memory they filled, or the refusal.
-#[derive(Drop)]
+#[derive(Clone, Copy)]
 pub enum Filled {
     Entries(usize),
     Refused(Refusal),
 }
 
 // What the listing answers: the check's verdict or refusal, and how many bytes it wrote.
-#[derive(Drop)]
+#[derive(Clone, Copy)]
 pub struct Listed {
     pub answer: Answer,
     pub length: usize,
 }
 
 // The six numbers that a program begins with: N, A, R, Q, S and T.
-#[derive(Drop)]
+#[derive(Clone, Copy)]
 pub struct Header {
     pub ranks: u16,
     pub cells: u16,
@@ -95,7 +95,7 @@ pub struct Header {
 }
 
 // The nine kinds of items; all but the pops are kinds of transitions too.
-#[derive(Drop)]
+#[derive(Clone, Copy)]
 pub enum Kind {
     Load,
     Store,
@@ -109,7 +109,7 @@ pub enum Kind {
 }
 
 // What an item's map byte and kind byte say together: the kind, or which of the two is to blame.
-#[derive(Drop)]
+#[derive(Clone, Copy)]
 pub enum ItemForm {
     Good(Kind),
     UnknownKind,
@@ -117,14 +117,14 @@ pub enum ItemForm {
 }
 
 // A cell of the global address space: the rank that holds it, and its number there.
-#[derive(Drop)]
+#[derive(Clone, Copy)]
 pub struct Address {
     pub rank: u16,
     pub cell: u16,
 }
 
 // The value that an item may give for what it reads or writes.
-#[derive(Drop)]
+#[derive(Clone, Copy)]
 pub enum Given {
     Value(u16),
     Absent,
@@ -132,7 +132,7 @@ pub enum Given {
 
 // An item of a record. A field that the item's map leaves out is 0; so a pop whose `remote` is 0 names no remote rank. Four numbers, then place and
 // value, are eight bytes each, and the kind, one byte, stands last: so an item is put together and copied in whole words.
-#[derive(Drop)]
+#[derive(Clone, Copy)]
 pub struct Item {
     pub rank: u16,
     pub transition: u16,

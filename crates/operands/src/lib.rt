@@ -14,7 +14,7 @@ use model::{Address, Header, Kind, Refusal};
 use transitions::transition::{Command, Operands};
 
 // What a command does once its operands are in their ranges.
-#[derive(Drop)]
+#[derive(Clone, Copy)]
 pub enum Action {
     Loads {
         register: u16,
@@ -39,14 +39,14 @@ pub enum Action {
 }
 
 // An action, or the refusal of an operand or an assumption.
-#[derive(Drop)]
+#[derive(Clone, Copy)]
 pub enum Asked {
     Does(Action),
     Refused(Refusal),
 }
 
 // The addresses and the queue of a transfer, or the refusal of an operand.
-#[derive(Drop)]
+#[derive(Clone, Copy)]
 pub enum Transferred {
     Between {
         own: Address,

@@ -18,7 +18,7 @@ use transitions::pair::Pair;
 const LONG_LEAST: u16 = SHORT_TRANSITIONS + 1;
 
 // A header and the place after it, or the refusal.
-#[derive(Drop)]
+#[derive(Clone, Copy)]
 pub enum HeaderRead {
     Read(Header, usize),
     Refused(Refusal),

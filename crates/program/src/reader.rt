@@ -8,7 +8,7 @@ use model::{Header, REGISTERS, Refusal, Starts, TRANSITIONS};
 use transitions::transition::{TransitionRead, read_transition};
 
 // The header of a program that can be read, or the refusal.
-#[derive(Drop)]
+#[derive(Clone, Copy)]
 pub enum ReadAnswer {
     Readable(Header),
     Refused(Refusal),

@@ -12,7 +12,7 @@ use model::{Address, Given, Header, Item, ItemForm, Kind, Refusal};
 
 // What stands at a place: the place after it and an item, or the refusal. The place stands first, so that the words of the item, and not halves of
 // them, lie where a refusal's do.
-#[derive(Drop)]
+#[derive(Clone, Copy)]
 pub enum ItemRead {
     Read { next: usize, item: Item },
     Refused(Refusal),

@@ -16,7 +16,7 @@ const MAX_COUNT: u16 = ITEMS as u16;
 pub const FIRST_ITEM: usize = 2;
 
 // A record that can be read has so many items, the first at `FIRST_ITEM`.
-#[derive(Drop)]
+#[derive(Clone, Copy)]
 pub enum RecordRead {
     Readable { count: usize },
     Refused(Refusal),

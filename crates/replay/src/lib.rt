@@ -13,7 +13,7 @@ use runs::{Reached, SoFar, replay_so_far};
 use start_cells::{StartRead, start_cells};
 
 // An accepted record of a readable program: the program's numbers, how many items the record has, and how many groups they form; or the refusal.
-#[derive(Drop)]
+#[derive(Clone, Copy)]
 pub enum Acceptance {
     Accepted {
         header: Header,

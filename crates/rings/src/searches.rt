@@ -10,14 +10,14 @@ use indexing::{Links, entry};
 use model::ITEMS;
 
 // A group, and how many arrows lead back to it: 0 if none do.
-#[derive(Drop)]
+#[derive(Clone, Copy)]
 pub struct Closing {
     pub group: u16,
     pub arrows: u16,
 }
 
 // A group that was met, its distance, and the lowest group on its way.
-#[derive(Drop)]
+#[derive(Clone, Copy)]
 pub struct Reached {
     pub group: u16,
     pub level: u16,

@@ -16,7 +16,7 @@ use trails::tell;
 
 // Where items end that were all taken: the place behind the last one, how many groups they form, how many bars stand in a row that is open there (0
 // where none is), and whether all queues are empty.
-#[derive(Drop)]
+#[derive(Clone, Copy)]
 pub struct Reached {
     pub place: usize,
     pub groups: u16,
@@ -25,7 +25,7 @@ pub struct Reached {
 }
 
 // All items taken, and how far they come; or the first refusal.
-#[derive(Drop)]
+#[derive(Clone, Copy)]
 pub enum SoFar {
     Taken(Reached),
     Refused(Refusal),

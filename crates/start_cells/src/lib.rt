@@ -13,7 +13,7 @@ use model::refusals::START_FORM;
 use model::{CELLS, Cells, Header, RANKS, Refusal};
 
 // Whether bytes are a start of a program with these numbers, or why they are none.
-#[derive(Drop)]
+#[derive(Clone, Copy)]
 pub enum StartRead {
     Readable,
     Refused(Refusal),

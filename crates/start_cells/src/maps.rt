@@ -11,7 +11,7 @@ use model::refusals::START_FORM;
 use model::{MAP_BYTES, Refusal};
 
 // A map and the place after it, or the refusal.
-#[derive(Drop)]
+#[derive(Clone, Copy)]
 pub enum MapRead {
     Map(u64, usize),
     Refused(Refusal),

@@ -9,7 +9,7 @@ use program::reader::{ReadAnswer, read_program};
 use start_cells::{StartRead, start_cells};
 
 // The answer, with so many ranks and so many cells of each to write: none on a refusal.
-#[derive(Drop)]
+#[derive(Clone, Copy)]
 pub struct Reading {
     pub answer: Filled,
     pub ranks: u16,

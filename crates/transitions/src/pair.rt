@@ -2,7 +2,7 @@
 use model::Refusal;
 
 // Two numbers and the place after them, or the refusal of the first field that is refused.
-#[derive(Drop)]
+#[derive(Clone, Copy)]
 pub enum Pair {
     Read(u16, u16, usize),
     Refused(Refusal),

@@ -16,7 +16,7 @@ use model::refusals::{PROGRAM_FORM, PROGRAM_LENGTH};
 use model::{Header, RankRegisters, Refusal};
 
 // The values of e1 to e4 of a transfer: "e1 own cell, e2 remote rank, e3 remote cell, e4 queue". None is judged yet.
-#[derive(Drop)]
+#[derive(Clone, Copy)]
 pub struct Operands {
     pub own: Value,
     pub rank: Value,
@@ -25,7 +25,7 @@ pub struct Operands {
 }
 
 // The command column of document 01's table of kinds, with a value in the place of each expression.
-#[derive(Drop)]
+#[derive(Clone, Copy)]
 pub enum Command {
     Load { cell: Value, register: u16 },
     Store { cell: Value, value: Value },
@@ -36,7 +36,7 @@ pub enum Command {
     Bar,
 }
 
-#[derive(Drop)]
+#[derive(Clone, Copy)]
 pub struct Transition {
     pub source: u16,
     pub target: u16,
@@ -44,14 +44,14 @@ pub struct Transition {
 }
 
 // A transition and the place after it, or the refusal.
-#[derive(Drop)]
+#[derive(Clone, Copy)]
 pub enum TransitionRead {
     Read { transition: Transition, next: usize },
     Refused(Refusal),
 }
 
 // The map that the transitions of a kind have.
-#[derive(Drop)]
+#[derive(Clone, Copy)]
 enum Form {
     Map(u16),
     Unknown,

@@ -14,7 +14,7 @@ use fields::{Field, bit};
 use model::{Header, RankRegisters, Refusal};
 
 // A field that the map leaves out is 0.
-#[derive(Drop)]
+#[derive(Clone, Copy)]
 pub struct Values {
     pub register: u16,
     pub e1: Value,
@@ -24,14 +24,14 @@ pub struct Values {
 }
 
 // The values and the place after the fields, or the refusal.
-#[derive(Drop)]
+#[derive(Clone, Copy)]
 pub enum FieldsRead {
     Read(Values, usize),
     Refused(Refusal),
 }
 
 // The values of two expressions and the place after them, or the refusal of the first that is refused.
-#[derive(Drop)]
+#[derive(Clone, Copy)]
 enum TwoValues {
     Read(Value, Value, usize),
     Refused(Refusal),
