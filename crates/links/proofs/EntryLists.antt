@@ -107,6 +107,7 @@ once_across (x ∷ xs) ys (h, o) = (all_right (λ y. y ≢ x) xs ys h, once_acro
 
 -- What holds of all entries holds of one that stands there; so without repeats they are distinct, and no more than there are rows.
 all_at : (P : ℕ → Type 0) (es : List ℕ) → All P es → {x : ℕ} → x ∈ es → P x
+all_at P [] _ m = elim m [ ]
 all_at P (e ∷ es) (h, all) (here same) = rw same h
 all_at P (e ∷ es) (h, all) (there m) = all_at P es all m
 
