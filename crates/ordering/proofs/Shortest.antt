@@ -15,7 +15,7 @@ use Rattle.model.specs.Lists.{◌∈◌, Distinct, Rising}
 use Rattle.model.proofs.Laws.{decided, getElem?-bound, getElem?-front}
 use Rattle.model.proofs.Selections.{split_at}
 use Rattle.model.proofs.Lists.{position}
-use Rattle.ordering.specs.Walks.{Along, Closed, Walk, step}
+use Rattle.ordering.specs.Walks.{Along, Closed, Walk, stay, step}
 use Rattle.ordering.proofs.WalkBack.{Circuit}
 use Rattle.ordering.specs.Orders.{ComesFirst, less, equal}
 use Rattle.ordering.proofs.Lengths.{walk_join, along_walk, walk_between}
@@ -49,6 +49,7 @@ module _ (groups : List ℕ) (edges : List Edge) (starts : Starts groups edges) 
 
   -- A group that an arrow leads from is one of these.
   starts_inside : {m y z : ℕ} → 1 ≤ m → Walk edges m y z → y ∈ groups
+  starts_inside low (stay _) = elim low [ ]
   starts_inside low (step a w) = starts _ a
 
   -- From each of its places to a later one, and round to the end.
