@@ -6,9 +6,10 @@ use mathlib.Core.List.{List}
 use mathlib.Core.Option.{Option, some, none, none-ne-some}
 use lib.ListN.{take}
 use Rattle.model.specs.declared.Address.{Address}
+use Rattle.model.specs.declared.Item.{Item}
 use Rattle.model.specs.Programs.{Program}
-use Rattle.model.specs.Machine.{State, Start, Access, address, read_of, write_of, initial, move_to, set_cell, set_requests, set_deliveries, Action, loads, stores, assigns, passes, issues, meets}
-use Rattle.model.specs.Replay.{Origin, Event, Replay, begin, access_of, perform, origin_of}
+use Rattle.model.specs.Machine.{State, Start, Request, Delivery, Access, address, read_of, write_of, initial, move_to, set_cell, set_requests, set_deliveries, Action, loads, stores, assigns, passes, issues, meets}
+use Rattle.model.specs.Replay.{Origin, Event, Replay, begin, access_of, perform, origin_of, after_fetch, after_delivery}
 use Rattle.model.specs.HappensBefore.{At}
 use Rattle.record_facts.specs.Facts.{Local, written, cells_after}
 use Rattle.record_facts.proofs.Moves.{Move, commands, fetches, delivers}
@@ -26,12 +27,25 @@ performed_cells rank origin passes s = refl
 performed_cells rank origin (issues q remote source destination) s = refl
 performed_cells rank origin meets s = refl
 
+-- A fetch and a delivery write the access of their event.
+fetched_cells : (s : Replay) (i : Item) (a : Request Origin) (rest : List (Request Origin)) →
+    let after = after_fetch s i a rest in
+    after.state.machine.cells ≡ written s.machine.cells after.event.access
+unfolding set_requests set_deliveries written
+fetched_cells s i a rest = refl
+
+delivered_cells : (s : Replay) (i : Item) (b : Delivery Origin) (rest : List (Delivery Origin)) →
+    let after = after_delivery s i b rest in
+    after.state.machine.cells ≡ written s.machine.cells after.event.access
+unfolding set_deliveries set_cell written
+delivered_cells s i b rest = refl
+
 -- A step writes its event's access.
 move_cells : {P : Program} {s s' : Replay} {e : Event} → Move P s e s' → s'.machine.cells ≡ written s.machine.cells e.access
-unfolding move_to set_requests set_deliveries set_cell written
+unfolding move_to
 move_cells {s = s} (commands i t a c) = performed_cells i.rank (origin_of s i) a s.machine
-move_cells (fetches i a rest c) = refl
-move_cells (delivers i b rest c) = refl
+move_cells {s = s} (fetches i a rest c) = fetched_cells s i a rest
+move_cells {s = s} (delivers i b rest c) = delivered_cells s i b rest
 
 some-injective : {a b : Access} → some a ≡ some b → a ≡ b
 some-injective h = cc

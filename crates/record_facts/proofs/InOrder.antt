@@ -1,6 +1,6 @@
 -- The entries of a queue stand in the order in which they were appended: the numbers of the items that appended them rise along it. An item has a
 -- higher number than all before it, so what it appends keeps them rising; and so does what a pop leaves.
-use Prim.Native.Nat.{ℕ, suc, ◌+◌}
+use Prim.Native.Nat.{ℕ, suc}
 use mathlib.Core.Path.{◌≡◌, ◌∙◌}
 use mathlib.Core.Bool.{true}
 use mathlib.Core.List.{List, [], ◌∷◌, ◌++◌, append_assoc}

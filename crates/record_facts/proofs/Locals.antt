@@ -4,12 +4,14 @@ use Prim.Native.Nat.{ℕ, suc, ◌+◌}
 use native.Mathlib.Numerals.{add-one}
 use mathlib.Core.Path.{◌≡◌, refl, sym, ◌∙◌, ap, ap₂, subst}
 use mathlib.Core.Bool.{true, false, ◌&&◌, false≢true}
+use mathlib.Core.List.{List}
 use lib.Dec.{eqb}
 use borrow.Author.Tests.{eqb-true, eqb-false}
+use Rattle.model.specs.declared.Item.{Item}
 use Rattle.model.specs.ItemKinds.{is_command_part}
 use Rattle.model.specs.Programs.{Program}
-use Rattle.model.specs.Machine.{State, move_to, set_cell, set_requests, set_deliveries, Action, loads, stores, assigns, passes, issues, meets}
-use Rattle.model.specs.Replay.{Origin, Event, Replay, access_of, perform, origin_of}
+use Rattle.model.specs.Machine.{State, Request, Delivery, move_to, set_cell, set_requests, set_deliveries, Action, loads, stores, assigns, passes, issues, meets}
+use Rattle.model.specs.Replay.{Origin, Event, Replay, access_of, perform, origin_of, after_fetch, after_delivery}
 use Rattle.model.specs.HappensBefore.{is_command, rank_of}
 use Rattle.model.specs.Traces.{command_of}
 use Rattle.model.proofs.Laws.{and-true, put_same, put_other, put₂-row, put₂-other-row}
@@ -57,8 +59,16 @@ pub record Kept (s : Replay) (rank : ℕ) (s' : Replay) : Type 0 where
   pub count : s'.taken rank ≡ s.taken rank
   pub same : local_of s' rank ≡ local_of s rank
 
+fetch_kept : (s : Replay) (i : Item) (a : Request Origin) (rest : List (Request Origin)) (rank : ℕ) → Kept s rank (after_fetch s i a rest).state
+unfolding set_requests set_deliveries
+fetch_kept s i a rest rank = record { count = refl; same = refl }
+
+delivery_kept : (s : Replay) (i : Item) (b : Delivery Origin) (rest : List (Delivery Origin)) (rank : ℕ) → Kept s rank (after_delivery s i b rest).state
+unfolding set_deliveries set_cell
+delivery_kept s i b rest rank = record { count = refl; same = refl }
+
 pub local_kept : {P : Program} {s s' : Replay} {e : Event} → Move P s e s' → (rank : ℕ) → command_of rank e ≡ false → Kept s rank s'
-unfolding move_to set_requests set_deliveries set_cell
+unfolding move_to
 local_kept {s = s} (commands i t a c) rank h =
     let other : ¬ (rank ≡ i.rank) = λ same. eqb-false i.rank rank (subst (λ p. (is_command_part p && eqb i.rank rank) ≡ false)
     c.taken.part h) (sym same) in
@@ -70,8 +80,8 @@ local_kept {s = s} (commands i t a c) rank h =
           ap (λ control. control rank) (control_kept i.rank (origin_of s i) a s.machine))
           (registers_kept i.rank (origin_of s i) a s.machine rank other);
     }
-local_kept (fetches i a rest c) rank h = record { count = refl; same = refl }
-local_kept (delivers i b rest c) rank h = record { count = refl; same = refl }
+local_kept {s = s} (fetches i a rest c) rank h = fetch_kept s i a rest rank
+local_kept {s = s} (delivers i b rest c) rank h = delivery_kept s i b rest rank
 
 -- A command takes its rank one step on.
 pub record Advanced (P : Program) (s : Replay) (e : Event) (s' : Replay) : Type 0 where

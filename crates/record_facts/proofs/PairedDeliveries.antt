@@ -2,9 +2,9 @@
 -- the popb's queue, where deliveries stand in the order in which they were fetched: so the one that it takes is the oldest.
 use Prim.Native.Nat.{ℕ, ◌≤◌, ◌<◌}
 use mathlib.Core.Path.{◌≡◌, refl, sym, ◌∙◌, ap, subst, subst₂}
-use mathlib.Core.Bool.{true, true≢false}
+use mathlib.Core.Bool.{true≢false}
 use mathlib.Core.List.{List, map}
-use mathlib.Core.Logic.{◌⊎◌, inl, ⊎_elim}
+use mathlib.Core.Logic.{inl, ⊎_elim}
 use mathlib.Core.Option.{some-injective}
 use native.Mathlib.Omega.{arith}
 use lib.ListN.{take, drop, take-append-drop}

@@ -11,7 +11,7 @@ use Rattle.model.specs.ItemKinds.{is_transfer}
 use Rattle.model.specs.Programs.{Program, Transition}
 use Rattle.model.specs.Machine.{State, Request, Delivery, move_to, set_cell, set_requests, set_deliveries, Action, loads, stores, assigns, passes, issues, meets}
 use Rattle.model.specs.Replay.{Origin, Event, Replay, perform, origin_of, after_command, sent_on, after_fetch, after_delivery}
-use Rattle.model.proofs.Replay.{taken_oldest}
+use Rattle.model.proofs.Replay.{FetchTaken, DeliveryTaken, taken_oldest}
 use Rattle.record_facts.proofs.Actions.{Fits}
 use Rattle.record_facts.proofs.Moves.{Commands, Move, commands, fetches, delivers}
 use Rattle.record_facts.proofs.Appended.{group_own, group_other}
@@ -55,20 +55,34 @@ module _ (own : ℕ) (origin : Origin) where
   performed_other g meets s other = refl
 
 -- Every group but the event's stays as it stands.
+other_fetch : (s : Replay) (done : List Event) (i : Item) (a : Request Origin) (rest : List (Request Origin)) → FetchTaken s i a rest → (g : ℕ) →
+    ¬ (request_group a ≡ g) →
+    let after = after_fetch s i a rest in
+    standing g (done ++ after.event ∷ []) after.state ≡ standing g done s
+unfolding set_requests set_deliveries
+other_fetch s done i a rest c g other =
+    same_standing (group_other g done _ other)
+    (take_other request_group s.machine.requests i.rank i.queue g (oldest_out (taken_oldest c)) other)
+    (append_other delivery_group s.machine.deliveries i.rank i.queue (sent_on s a) g other)
+
+other_delivery : (s : Replay) (done : List Event) (i : Item) (b : Delivery Origin) (rest : List (Delivery Origin)) → DeliveryTaken s i b rest →
+    (g : ℕ) → ¬ (delivery_group b ≡ g) →
+    let after = after_delivery s i b rest in
+    standing g (done ++ after.event ∷ []) after.state ≡ standing g done s
+unfolding set_deliveries set_cell
+other_delivery s done i b rest c g other =
+    same_standing (group_other g done _ other) refl
+    (take_other delivery_group s.machine.deliveries i.rank i.queue g (oldest_out (taken_oldest c)) other)
+
 pub stands_other : {P : Program} {s s' : Replay} {e : Event} (done : List Event) → Move P s e s' → (g : ℕ) → ¬ (e.group ≡ g) →
     standing g (done ++ e ∷ []) s' ≡ standing g done s
-unfolding move_to set_requests set_deliveries set_cell
+unfolding move_to
 stands_other {s = s} done (commands i t a c) g other =
     same_standing (group_other g done _ other)
     (performed_other i.rank (origin_of s i) g a s.machine other)
     (ap (of_group delivery_group g) (performed_deliveries i.rank (origin_of s i) a s.machine))
-stands_other {s = s} done (fetches i a rest c) g other =
-    same_standing (group_other g done _ other)
-    (take_other request_group s.machine.requests i.rank i.queue g (oldest_out (taken_oldest c)) other)
-    (append_other delivery_group s.machine.deliveries i.rank i.queue (sent_on s a) g other)
-stands_other {s = s} done (delivers i b rest c) g other =
-    same_standing (group_other g done _ other) refl
-    (take_other delivery_group s.machine.deliveries i.rank i.queue g (oldest_out (taken_oldest c)) other)
+stands_other {s = s} done (fetches i a rest c) g other = other_fetch s done i a rest c g other
+stands_other {s = s} done (delivers i b rest c) g other = other_delivery s done i b rest c g other
 
 -- The event's group.
 module _ (s : Replay) (done : List Event) where
