@@ -12,7 +12,7 @@ use lib.ListN.{length, take}
 use borrow.Author.Tests.{eq-eqb, eqb-true}
 use Rattle.model.specs.declared.Address.{Address}
 use Rattle.model.specs.Choice.{select}
-use Rattle.model.specs.Machine.{Access, Start, address}
+use Rattle.model.specs.Machine.{Access, Start}
 use Rattle.model.specs.Replay.{Event, same_address}
 use Rattle.model.specs.HappensBefore.{At, is_command, rank_of, same_sequence, conflict, either_writes}
 use Rattle.model.specs.Traces.{transitions_of, command_of}

@@ -20,7 +20,7 @@ use Rattle.model.specs.Refusals.{ok, ◌>>=◌}
 use Rattle.model.specs.Choice.{when, numbers_from, Each, all, one}
 use Rattle.model.specs.ItemKinds.{kind_number, same_kind, is_bar, is_transfer}
 use Rattle.model.specs.Programs.{Program, Transition, kind_of}
-use Rattle.model.specs.Machine.{Start, Access, read_of, write_of, issues, action}
+use Rattle.model.specs.Machine.{Start, Access, issues, action}
 use Rattle.model.specs.Replay.{Event, Origin, Replay, Replayed, Taken, row_allows, row_after, group_of, opened_after, agrees_with, take_item, take_items}
 use Rattle.model.specs.HappensBefore.{At, is_command, rank_of}
 use Rattle.model.specs.Traces.{is_pop, followed_at_once, transfers_together}

@@ -8,7 +8,7 @@ use mathlib.Core.Option.{Option, some}
 use native.Mathlib.Numerals.{add-one}
 use lib.Dec.{eqb}
 use borrow.Author.Tests.{eqb-true}
-use Rattle.model.specs.ItemKinds.{is_transfer, command, part_of}
+use Rattle.model.specs.ItemKinds.{is_transfer, part_of}
 use Rattle.model.specs.Programs.{Program, kind_of, Command}
 use Rattle.model.specs.Machine.{State, Start, Access, read_of, address, put, put₂, move_to, set_register, set_cell, set_requests, Action, loads, stores, assigns, passes, issues, meets, action}
 use Rattle.model.specs.Replay.{Event, Origin, Replay, row_allows, row_after, group_of, opened_after, agrees_with, access_of, perform, agreed, after_command}

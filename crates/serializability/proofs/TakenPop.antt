@@ -9,7 +9,7 @@ use Rattle.model.specs.declared.Kind.TheVariants.{Popa, Popb}
 use Rattle.model.specs.ItemKinds.{is_bar}
 use Rattle.model.specs.Programs.{Program}
 use Rattle.model.specs.Machine.{Request, Delivery, Start, read_of, write_of, cell_at, put₂, set_cell, set_requests, set_deliveries}
-use Rattle.model.specs.Replay.{Event, Origin, Replay, agrees_with, agreed, is_for, request_for, delivery_for, after_fetch, after_delivery}
+use Rattle.model.specs.Replay.{Event, Origin, Replay, agrees_with, is_for, request_for, delivery_for, after_fetch, after_delivery}
 use Rattle.model.specs.HappensBefore.{is_command, rank_of}
 use Rattle.model.proofs.Replay.{fetches, delivers, oldest_only}
 use Rattle.model.proofs.Laws.{decided, put₂-same}
