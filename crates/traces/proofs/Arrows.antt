@@ -187,7 +187,7 @@ module _ {P : Program} {start start' : Start} {run run' : Replayed} (a : Recorde
       ([], refl, ((edges_agree run'.events g' x').1 (subst (HappensBefore run'.events g') same t.arrow), tt))
   walk_too {g} {g'} (h ∷ l) from to along =
       let t = arrow_too from ((edges_agree run.events g h).0 along.0) in
-      let (m, long, rest) = walk_too l t.match to along.1 in
+      let (m, long, rest) = walk_too {g = h} {g' = t.h'} l t.match to along.1 in
       (t.h' ∷ m, ap suc long, ((edges_agree run'.events g' t.h').1 t.arrow, rest))
 
   -- A group that an arrow leaves has a match.
