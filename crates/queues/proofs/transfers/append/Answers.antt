@@ -1,23 +1,20 @@
 -- `queues::transfers::append` meets its contract: where there is room, its calls are the definition's.
-use mathlib.Core.Path.{◌≡◌, sym, ◌∙◌}
+use mathlib.Core.Path.{sym, ◌∙◌}
 use mathlib.Core.Bool.{true}
 use native.Mathlib.Omega.{arith}
 use Rattle.queues.specs.Transfers.{has_room, appended}
 use Rattle.queues.proofs.Calls.{append_made, room_there}
 use Rattle.queues.proofs.transfers.append.Goals as goal
 
-room : (c : goal.Then-has_room) → has_room c.args.rank c.args.queue c.args.at ≡ true
-room c = sym c.has_room.ensures ∙ c.if-has_room.true
-
 pub overflow_add-entry : goal.overflow_add-entry
-overflow_add-entry c = record { fits = omega (arith, (room_there _ _ _ (room c)).item_held) }
+overflow_add-entry c = record { fits = omega (arith, (room_there _ _ _ (sym c.has_room.ensures ∙ c.if-has_room.true)).item_held) }
 
 pub overflow_cast-entry : goal.overflow_cast-entry
-overflow_cast-entry c = record { fits = omega (arith, (room_there _ _ _ (room c)).item_held) }
+overflow_cast-entry c = record { fits = omega (arith, (room_there _ _ _ (sym c.has_room.ensures ∙ c.if-has_room.true)).item_held) }
 
 pub returns-then-has_room : goal.returns-then-has_room
 returns-then-has_room c =
-    append_made _ _ _ _ _ _ _ _ _ (room c) c.set_request.ensures c.list_of.ensures c.link.ensures
+    append_made _ _ _ _ _ _ _ _ _ (sym c.has_room.ensures ∙ c.if-has_room.true) c.set_request.ensures c.list_of.ensures c.link.ensures
 
 pub returns-else-has_room : goal.returns-else-has_room
 unfolding appended
