@@ -1,0 +1,24 @@
+-- `lines::group_length` meets its contract: five fields with what stands between them. Each has few bytes, so the sum does not wrap.
+use native.Mathlib.Omega.{arith}
+use Rattle.model.proofs.Listings.{decimal_few, kind_short}
+use Rattle.lines.proofs.GroupLines.{group_length}
+use Rattle.lines.proofs.group_length.Goals as goal
+
+pub overflow_add-result : goal.overflow_add-result
+overflow_add-result c =
+    let given = c.args in
+    omega (arith, decimal_few given.group (omega arith))
+
+pub returns : goal.returns
+returns c =
+    let given = c.args in
+    omega (arith, group_length given.group given.kind given.rank given.first)
+
+pub overflow_add-result-2 : goal.overflow_add-result-2
+overflow_add-result-2 c = omega (arith, (let given = c.args in omega ( arith, kind_short given.kind, decimal_few given.group (omega arith), decimal_few given.rank (omega arith), decimal_few given.first (omega arith), )))
+
+pub overflow_add-result-3 : goal.overflow_add-result-3
+overflow_add-result-3 c = omega (arith, (let given = c.args in omega ( arith, kind_short given.kind, decimal_few given.group (omega arith), decimal_few given.rank (omega arith), decimal_few given.first (omega arith), )))
+
+pub overflow_add-result-4 : goal.overflow_add-result-4
+overflow_add-result-4 c = omega (arith, (let given = c.args in omega ( arith, kind_short given.kind, decimal_few given.group (omega arith), decimal_few given.rank (omega arith), decimal_few given.first (omega arith), )))
