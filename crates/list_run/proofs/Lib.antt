@@ -1,4 +1,3 @@
 pub mod Asking
-pub mod Fronts
 pub mod Running
 pub mod FilesListed

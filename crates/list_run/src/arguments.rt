@@ -1,6 +1,8 @@
 // What the program's arguments ask for.
 ghost use Rattle.list_run.specs.Arguments.{Asks};
 
+use std::env::{Env, FillError};
+
 // A listing, where there are no arguments; help or the version, each where it is asked for alone; or something else, which is no use of the program.
 #[derive(Clone, Copy)]
 pub enum Asked {
@@ -23,18 +25,33 @@ fn asked_by(words: usize, word: &[u8]) -> Asked
     if words > 2 {
         return Asked::Other;
     }
-    if check::same(word, b"--help") {
+    if word == b"--help".as_slice() {
         return Asked::Help;
     }
-    if check::same(word, b"--version") {
+    if word == b"--version".as_slice() {
         return Asked::Version;
     }
     Asked::Other
 }
 
-// The same of the program's own arguments. An argument that is too long for the room counts as an empty one, and neither is known.
-pub fn arguments() -> Asked {
+// The same of the program's own arguments, whatever bytes they have. No more than two are looked at: three words stand for any more. An argument that
+// is too long for the room counts as an empty one, and neither is known.
+pub fn arguments<R: Env>(rt: &R) -> Asked {
     let mut word = [0; WORD];
-    let length = os::arg(1, &mut word);
-    asked_by(os::arg_count(), &word[..length])
+    let length = match rt.arg(1, &mut word) {
+        Ok(length) => length,
+        Err(FillError::TooLong) => 0,
+        Err(FillError::NotPresent) => return asked_by(1, &[]),
+    };
+    let words = if has_argument(rt, 2) { 3 } else { 2 };
+    asked_by(words, &word[..length])
+}
+
+// Whether the program was started with this argument.
+fn has_argument<R: Env>(rt: &R, i: usize) -> bool {
+    let mut none = [];
+    match rt.arg(i, &mut none) {
+        Ok(_) | Err(FillError::TooLong) => true,
+        Err(FillError::NotPresent) => false,
+    }
 }

@@ -18,6 +18,7 @@ use crate::files::{PROGRAM, RECORD, START, read_front};
 use crate::output::{HELP, VERSION, exit_status, refuse, say, status_of, tell};
 use listing::listing;
 use model::Listed;
+use std::rt::{Env, Files};
 
 // What is read of each file: one byte more than the longest readable program, start or record has. That byte is left over already, so what lies behind
 // it changes nothing (`files_listed`).
@@ -78,12 +79,18 @@ pub fn list(
 
 // Reads the three files into the fronts of lent bytes, lists the run into `text`, and prints it. The listing and the status are those of the bytes that
 // are there then, as many of them as it answers.
-pub fn run(program: &mut [u8], start: &mut [u8], recorded: &mut [u8], text: &mut [u8]) -> Ran
+pub fn run<R: Files + Print + Eprint>(
+    rt: &R,
+    program: &mut [u8],
+    start: &mut [u8],
+    recorded: &mut [u8],
+    text: &mut [u8],
+) -> Ran
     ensures { Runs program.new start.new recorded.new text.old text.new result }
 {
-    let program_count = read_front(PROGRAM, true, program);
-    let start_count = read_front(START, false, start);
-    let record_count = read_front(RECORD, true, recorded);
+    let program_count = read_front(rt, PROGRAM, true, program);
+    let start_count = read_front(rt, START, false, start);
+    let record_count = read_front(rt, RECORD, true, recorded);
     let listed = list(
         program,
         program_count,
@@ -95,7 +102,7 @@ pub fn run(program: &mut [u8], start: &mut [u8], recorded: &mut [u8], text: &mut
     );
     let length = listed.length;
     let answer = listed.answer;
-    let written = say(&text[..length]);
+    let written = say(rt, &text[..length]);
     let status = exit_status(written, status_of(answer));
     Ran {
         program: program_count,
@@ -132,26 +139,25 @@ fn listing_room() -> [u8; LISTING]
 }
 
 // Lists the run of the folder where the program is started, and answers the exit status.
-fn list_files() -> u8
+fn list_files<R: Files + Print + Eprint>(rt: &R) -> u8
     ensures { result ≤ not_written }
 {
     let mut program = program_room();
     let mut start = start_room();
     let mut recorded = record_room();
     let mut text = listing_room();
-    let ran = run(&mut program, &mut start, &mut recorded, &mut text);
+    let ran = run(rt, &mut program, &mut start, &mut recorded, &mut text);
     ran.status
 }
 
 // The whole program: its exit status is what this returns.
-#[unsafe(no_mangle)]
-pub extern "C" fn lellmusu_list_run() -> u8
+pub fn lellmusu_list_run<R: Env + Files + Print + Eprint>(rt: &R) -> u8
     ensures { result ≤ not_written }
 {
-    match arguments() {
-        Asked::Listing => list_files(),
-        Asked::Help => tell(&HELP),
-        Asked::Version => tell(&VERSION),
-        Asked::Other => refuse(),
+    match arguments(rt) {
+        Asked::Listing => list_files(rt),
+        Asked::Help => tell(rt, &HELP),
+        Asked::Version => tell(rt, &VERSION),
+        Asked::Other => refuse(rt),
     }
 }

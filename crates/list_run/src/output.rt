@@ -2,10 +2,13 @@
 ghost use Rattle.std.specs.Prelude.{◌≤◌, ◌≡◌};
 ghost use Rattle.list_run.specs.Statuses.{status_of, exit_status, not_written};
 
+use arrayvec::ArrayString;
 use model::Answer;
+use std::fmt::Write;
+use std::io;
 
 // How the program is used; the same with what it is; and its version, which is that of the library's header.
-const USAGE: [u8; 37] = *b"usage: list_run [--help | --version]\n";
+const USAGE: &str = "usage: list_run [--help | --version]";
 
 pub const HELP: [u8; 423] = *b"usage: list_run [--help | --version]
 
@@ -49,26 +52,50 @@ pub fn exit_status(written: bool, status: u8) -> u8
     if written { status } else { NO_LISTING }
 }
 
-// Writes all of a text to standard output, or says on standard error why it cannot. Answers whether it was written.
-pub fn say(text: &[u8]) -> bool {
-    let written = io::write_all(libc::STDOUT_FILENO, text);
-    if !written {
-        os::fail(b"list_run");
+// Room for the text of an error, of which std gives at most 256 bytes, and its number.
+const REASON: usize = 512;
+
+// The C library's text of an error, behind which std writes the error's number.
+fn reason(text: &str) -> &str {
+    match text.rsplit_once(" (os error ") {
+        Some((reason, _)) => reason,
+        None => text,
     }
-    written
+}
+
+// Says on standard error why something failed, and of which file, if it was one.
+pub fn complain<R: Eprint>(rt: &R, name: Option<&str>, error: &io::Error) {
+    let mut text = ArrayString::<REASON>::new();
+    let _ = write!(text, "{error}");
+    let reason = reason(text.as_str());
+    let _ = match name {
+        Some(name) => eprintln!(rt; "list_run: {name}: {reason}"),
+        None => eprintln!(rt; "list_run: {reason}"),
+    };
+}
+
+// Writes all of a text to standard output, or says on standard error why it cannot. Answers whether it was written.
+pub fn say<R: Print + Eprint>(rt: &R, text: &[u8]) -> bool {
+    match rt.write_all(text) {
+        Ok(()) => true,
+        Err(error) => {
+            complain(rt, None, &error);
+            false
+        }
+    }
 }
 
 // Says a text that was asked for, and answers the exit status.
-pub fn tell(text: &[u8]) -> u8
+pub fn tell<R: Print + Eprint>(rt: &R, text: &[u8]) -> u8
     ensures { result ≤ not_written }
 {
-    exit_status(say(text), TOLD)
+    exit_status(say(rt, text), TOLD)
 }
 
 // Says on standard error how the program is used, and answers the exit status. Nothing is listed.
-pub fn refuse() -> u8
+pub fn refuse<R: Eprint>(rt: &R) -> u8
     ensures { result ≤ not_written }
 {
-    io::write_all(libc::STDERR_FILENO, &USAGE);
+    let _ = rt.eprintln(USAGE);
     NO_LISTING
 }

@@ -1,8 +1,9 @@
-// The listing program as the gate runs it: a Rattle program has no exit status of its own, so the status is dropped here.
+// The listing program, which ends with the status that it answers.
 #![tactic(auto)]
 
 use list_run::lellmusu_list_run;
+use std::process::ExitCode;
 
-fn main() {
-    lellmusu_list_run();
+fn main(rt: HostRuntime) -> ExitCode {
+    ExitCode::from(lellmusu_list_run(&rt))
 }
