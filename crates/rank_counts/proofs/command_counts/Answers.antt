@@ -1,20 +1,20 @@
 -- `command_counts` meets its contract. The invariant: the rows passed are tallied.
 use Prim.Native.Nat.{◌-◌, ◌≤◌}
-use mathlib.Core.Logic.{⊎_elim}
 use native.Mathlib.Nat.{min-le_right}
 use native.Mathlib.Omega.{arith}
 use Rattle.model.specs.Limits.{max_items}
 use Rattle.rank_counts.proofs.Tallies.{tallying_none, tallying_few, tallying_counted, tallying_passed, tallying_all}
 use Rattle.rank_counts.proofs.command_counts.Goals as goal
+use Rattle.rank_counts.proofs.command_counts.Goals.{then-row-lt-RANKS, else-row-lt-RANKS}
 
 pub loop-item-preserved : goal.loop-item-preserved
 loop-item-preserved c =
     let so_far = c.loop-item.invariant in
     let more = c.loop-item-test.true in
-    ⊎_elim
-    (λ w. rw w.1 (tallying_counted _ _ so_far more _ c.row_of-row.ensures w.0.taken))
-    (λ w. rw w.1 (tallying_passed _ _ so_far more _ c.row_of-row.ensures w.0.left))
-    c.if-row-lt-RANKS.branch
+    elim c.if-row-lt-RANKS.branch [
+      | then-row-lt-RANKS w ↦ rw w.counts-is (tallying_counted _ _ so_far more _ c.row_of-row.ensures w.if-row-lt-RANKS.true)
+      | else-row-lt-RANKS w ↦ rw w.counts-is (tallying_passed _ _ so_far more _ c.row_of-row.ensures w.if-row-lt-RANKS.false)
+    ]
 
 pub overflow_add-counts : goal.overflow_add-counts
 overflow_add-counts c =
