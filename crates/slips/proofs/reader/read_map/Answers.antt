@@ -1,0 +1,6 @@
+-- `reader::read_map`: a field that is judged.
+use Rattle.slips.proofs.Reading.{map_judged}
+use Rattle.slips.proofs.reader.read_map.Goals as goal
+
+pub returns : goal.returns
+returns c = map_judged _ _ c.map_field.ensures _ c.full_map.ensures c.within.ensures
