@@ -1,24 +1,33 @@
 -- `lines::group_length` meets its contract: five fields with what stands between them. Each has few bytes, so the sum does not wrap.
+use Prim.Native.Nat.{ℕ, ◌+◌, ◌≤◌, ◌<◌, ◌^◌}
+use mathlib.Core.Path.{◌≡◌}
 use native.Mathlib.Omega.{arith}
+use lib.ListN.{length}
+use Rattle.model.specs.declared.Kind.{Kind}
+use Rattle.model.specs.Listings.{decimal, kind_word}
 use Rattle.model.proofs.Listings.{decimal_few, kind_short}
 use Rattle.lines.proofs.GroupLines.{group_length}
 use Rattle.lines.proofs.group_length.Goals as goal
 
 pub overflow_add-result : goal.overflow_add-result
-overflow_add-result c =
-    let given = c.args in
-    omega (arith, decimal_few given.group (omega arith))
-
-pub returns : goal.returns
-returns c =
-    let given = c.args in
-    omega (arith, group_length given.group given.kind given.rank given.first)
+overflow_add-result c = omega (arith, decimal_few c.args.group (omega arith))
 
 pub overflow_add-result-2 : goal.overflow_add-result-2
-overflow_add-result-2 c = omega (arith, (let given = c.args in omega ( arith, kind_short given.kind, decimal_few given.group (omega arith), decimal_few given.rank (omega arith), decimal_few given.first (omega arith), )))
+overflow_add-result-2 c = omega (arith, kind_short c.args.kind, decimal_few c.args.group (omega arith))
 
 pub overflow_add-result-3 : goal.overflow_add-result-3
-overflow_add-result-3 c = omega (arith, (let given = c.args in omega ( arith, kind_short given.kind, decimal_few given.group (omega arith), decimal_few given.rank (omega arith), decimal_few given.first (omega arith), )))
+overflow_add-result-3 c =
+    omega (arith, kind_short c.args.kind, decimal_few c.args.group (omega arith), decimal_few c.args.rank (omega arith))
 
 pub overflow_add-result-4 : goal.overflow_add-result-4
-overflow_add-result-4 c = omega (arith, (let given = c.args in omega ( arith, kind_short given.kind, decimal_few given.group (omega arith), decimal_few given.rank (omega arith), decimal_few given.first (omega arith), )))
+overflow_add-result-4 c =
+    omega (
+      arith,
+      kind_short c.args.kind,
+      decimal_few c.args.group (omega arith),
+      decimal_few c.args.rank (omega arith),
+      decimal_few c.args.first (omega arith),
+    )
+
+pub returns : goal.returns
+returns c = omega (arith, group_length c.args.group c.args.kind c.args.rank c.args.first)

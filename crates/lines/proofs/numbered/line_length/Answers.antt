@@ -1,5 +1,5 @@
 -- `lines::numbered::line_length` meets its contract. The invariant: the word, the line feed and so many numbers are counted.
-use Prim.Native.Nat.{◌-◌}
+use Prim.Native.Nat.{◌≤◌}
 use native.Mathlib.Omega.{arith}
 use lib.ListN.{get_or}
 use Rattle.model.proofs.Listings.{decimal_few}
@@ -9,11 +9,17 @@ use Rattle.lines.proofs.numbered.line_length.Goals as goal
 pub loop-next-init : goal.loop-next-init
 loop-next-init c = counting_none _ _ (omega arith)
 
+-- The next number's digits are few.
+pub overflow_add-decimal_length : goal.overflow_add-decimal_length
+overflow_add-decimal_length c =
+    let number = get_or c.args.numbers.now c.loop-next.next 0 in
+    omega (arith, c.decimal_length.ensures, decimal_few number (omega arith))
+
 pub loop-next-preserved : goal.loop-next-preserved
-loop-next-preserved c = search (counting_more, (let next = c.loop-next.next in let number = get_or c.args.numbers.now next 0 in omega (arith, c.decimal_length.ensures, decimal_few number (omega (arith, c.shared_slice_known-in-loop-next-1.given next)))))
+loop-next-preserved c =
+    let number = get_or c.args.numbers.now c.loop-next.next 0 in
+    let few : c.decimal_length.result ≤ 20 = omega (arith, c.decimal_length.ensures, decimal_few number (omega arith)) in
+    search (counting_more, few)
 
 pub returns : goal.returns
 returns c = search counting_all
-
-pub overflow_add-decimal_length : goal.overflow_add-decimal_length
-overflow_add-decimal_length c = omega (arith, (let next = c.loop-next.next in let number = get_or c.args.numbers.now next 0 in omega (arith, c.decimal_length.ensures, decimal_few number (omega (arith, c.shared_slice_known-in-loop-next-1.given next)))))

@@ -1,7 +1,6 @@
 -- `lines::numbered::write_line` meets its contract. The invariant: the word and so many numbers are written, one behind the other.
-use Prim.Native.Nat.{◌-◌}
 use native.Mathlib.Omega.{arith}
-use Rattle.texts.proofs.Texts.{wrote_none, wrote_length, wrote_inside, grown_inside}
+use Rattle.texts.proofs.Texts.{wrote_none, wrote_inside, grown_inside}
 use Rattle.lines.proofs.Spaced.{lining_none, lining_more, lining_all}
 use Rattle.lines.proofs.numbered.write_line.Goals as goal
 
@@ -11,25 +10,18 @@ returns-then-text-line_length c = wrote_none _ _ (omega arith)
 pub loop-next-init : goal.loop-next-init
 loop-next-init c = lining_none (omega arith) c.write_word-at.ensures
 
-pub slice_bounds-write_number-count : goal.slice_bounds-write_number-count
-slice_bounds-write_number-count c = grown_inside c.loop-next.invariant.grown
-
 pub loop-next-preserved : goal.loop-next-preserved
-loop-next-preserved c =
-    lining_more c.loop-next.invariant c.loop-next-test.true c.write_number-at.ensures
+loop-next-preserved c = lining_more c.loop-next.invariant c.loop-next-test.true c.write_number-at.ensures
 
 pub overflow_add-at : goal.overflow_add-at
-overflow_add-at c = let so_far = (loop-next-preserved c).grown in omega (arith, so_far.place, so_far.inside)
-
-pub slice_bounds-write_word-count : goal.slice_bounds-write_word-count
-slice_bounds-write_word-count c = grown_inside c.loop-next.invariant.grown
-
-pub returns : goal.returns
-returns c =
-    lining_all c.loop-next.invariant c.write_word-at.ensures c.loop-next-test.false c.write_word.ensures
-
-pub shape_of-text : goal.shape_of-text
-shape_of-text c = omega (arith, wrote_inside (returns c))
+overflow_add-at c =
+    let so_far = (lining_more c.loop-next.invariant c.loop-next-test.true c.write_number-at.ensures).grown in
+    record { fits = omega (arith, so_far.place, so_far.inside) }
 
 pub returns : goal.returns
-returns c = wrote_length (returns c)
+returns c = lining_all c.loop-next.invariant c.write_word-at.ensures c.loop-next-test.false c.write_word.ensures
+
+pub overflow_add-result : goal.overflow_add-result
+overflow_add-result c =
+    let whole = lining_all c.loop-next.invariant c.write_word-at.ensures c.loop-next-test.false c.write_word.ensures in
+    record { fits = omega (arith, wrote_inside whole) }
