@@ -1,0 +1,7 @@
+-- `lellmusu_write_slip`: the slip writer's promise, with its answer in two numbers.
+use Rattle.lellmusu.proofs.Telling.{tells}
+use Rattle.lellmusu.proofs.lellmusu_write_slip.Goals as goal
+
+pub returns : goal.returns
+returns c =
+    tells c.write_slip-filled.ensures c.filled_value.ensures c.filled_number.ensures

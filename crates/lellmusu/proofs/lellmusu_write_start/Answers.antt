@@ -1,0 +1,7 @@
+-- `lellmusu_write_start`: the start writer's promise, with its answer in two numbers.
+use Rattle.lellmusu.proofs.Telling.{tells}
+use Rattle.lellmusu.proofs.lellmusu_write_start.Goals as goal
+
+pub returns : goal.returns
+returns c =
+    tells c.write_start_bytes-filled.ensures c.filled_value.ensures c.filled_number.ensures
