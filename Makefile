@@ -5,7 +5,8 @@
 ## make install    both, with header, pkg-config file and pages, below PREFIX=/usr/local; honours
 ##                 DESTDIR, LIBDIR, CPPFLAGS, CFLAGS and LDFLAGS
 ## make recorder   target/recorder/recorder, an example of a C program that calls the library
-## make test       every proof and every test, from nothing: it removes target/
+## make test       every proof and every test; what `rt ci` has passed on this machine before, and
+##                 what cargo and cc have built, is done again only where something changed
 ## make bench      times the whole check
 ##
 ## Parts of the test: second harness definitions edits first header-test recorder-test
@@ -18,16 +19,15 @@ PROGRAMS := target/second/release
 HARNESS := $(PROGRAMS)/harness
 FIRST := target/first/release/harness
 FORMS := target/forms.txt
-DEFINITIONS := target/definitions
+DEFINITIONS_LOG := target/definitions.log
 LIBRARY := target/staticlib/liblellmusu.a
 HEADER := include/lellmusu.h
 RECORDER := target/recorder
-LISTING_LIBRARY := target/staticlib/liblist_run.a
 LIST_RUN := target/programs/list_run
 VERSIONS := target/programs/versions
 
-# The kit's C code for opening files.
-OS_CODE = "$$(dirname "$$(rt doc)")/../lib/libos_c.a"
+# What is proved: a change in it has `rt` prove again what stands on it.
+PROVED := crates.txt $(shell find crates/*/src crates/*/specs crates/*/proofs -type f)
 
 # Where `install` puts its files, and the version, which is the header's.
 PREFIX ?= /usr/local
@@ -51,10 +51,6 @@ COUNT ?= 20000
 PROVER_PARTS := definitions edits
 OTHER_PARTS := second harness first header-test recorder-test list_run-test install-test
 
-# How many crates of one level, or edits, rt proves at a time. It waits for the last of them, so more than the machine has processors leave less of it
-# idle.
-export RT_JOBS ?= 8
-
 .PHONY: help test sample bench second harness definitions edits first programs library install recorder recorder-test recorder-thread header
 .PHONY: list_run list_run-test install-test header-test
 
@@ -62,8 +58,8 @@ export RT_JOBS ?= 8
 help:
 	@sed -n 's/^## \{0,1\}//p' Makefile
 
-# Every proof and must-fail edit from nothing, then the tests, which stand on what was proved. Each part's seconds are printed, and the gate's
-# last line is the last line.
+# rt's own gate, which comes before all else, then the tests, which stand on what was proved. It fails too where a must-fail edit no longer fits the text
+# (the line `rt: ok` counts those as bad). Each part's seconds are printed, and the gate's last line is the last line.
 test:
 	@set -e -o pipefail; room=$$(mktemp -d); trap 'rm -rf $$room' EXIT; \
 	lane() { \
@@ -72,6 +68,8 @@ test:
 		done; \
 	}; \
 	rt ci | tee $$room/gate; echo "rt ci $$SECONDS" >$$room/seconds; \
+	grep -q '^rt: ok' $$room/gate || { echo "no line 'rt: ok' from rt ci"; exit 1; }; \
+	! grep -qE '^rt: ok.*, [1-9][0-9]* bad' $$room/gate || { echo 'must-fail edits that are bad, as told above'; exit 1; }; \
 	lane $(PROVER_PARTS) >$$room/proofs 2>&1 & \
 	lane $(OTHER_PARTS); \
 	wait $$! || { cat $$room/proofs; exit 1; }; cat $$room/proofs; \
@@ -90,23 +88,26 @@ second:
 harness: programs
 	$(HARNESS) corpus $(VECTORS)
 
-# The corpus's shorter cases, computed by the definitions, and the header's numbers and lengths beside theirs.
+# The corpus's shorter cases, computed by the definitions, and the header's numbers and lengths beside theirs. The crates of theorems are written outside
+# the checkout, in which `rt ci` takes none but those of crates.txt.
 definitions: programs
-	rm -rf $(DEFINITIONS)
-	$(PROGRAMS)/definitions . $(DEFINITIONS) $(VECTORS)/*.txt
-	tests/header/theorems $(HEADER) $(DEFINITIONS)
-	cd $(DEFINITIONS) && rt check >check.log 2>&1 || { cat check.log; exit 1; }
-	@tail -n 1 $(DEFINITIONS)/check.log
+	@set -e; room=$$(mktemp -d); trap 'rm -rf $$room' EXIT; \
+	$(PROGRAMS)/definitions . $$room $(VECTORS)/*.txt; \
+	tests/header/theorems $(HEADER) $$room; \
+	(cd $$room && rt all check) >$(DEFINITIONS_LOG) 2>&1 || { cat $(DEFINITIONS_LOG); exit 1; }; \
+	tail -n 1 $(DEFINITIONS_LOG)
 
 # Edits of the definitions that the theorems must refuse.
 edits:
 	tests/edits/run
 
-# The whole check, and the listing program, as static libraries, proved again only if a crate has changed. Of each crate one line is shown; the whole
-# log is kept beside the libraries, and shown if something is not proved.
-$(LIBRARY) $(LISTING_LIBRARY): target/staticlib/lib%.a: crates.txt $(shell find crates -type f -not -path '*/must-fail/*')
+# The whole check as a static library, proved again only where a crate has changed. Of each crate that is checked one line is shown; the whole log is kept
+# beside the library, and shown if something is not proved.
+$(LIBRARY): $(PROVED)
 	@mkdir -p $(@D)
-	@set -o pipefail; rt staticlib $* 2>&1 | tee $(@D)/$*.log | grep --line-buffered '^rt: ' || { cat $(@D)/$*.log; exit 1; }
+	@set -o pipefail; (cd crates/lellmusu && rt lib) 2>&1 | tee $(@D)/lellmusu.log | { grep --line-buffered '^crate ' || true; } || \
+		{ cat $(@D)/lellmusu.log; exit 1; }
+	@cp crates/lellmusu/out/liblellmusu.a $@
 
 # The harness with the library's check in place of the second program's: the corpus, generated inputs, small records judged by searching all plain
 # runs, its answers on records of one trace beside each other, and the verdict on every pair of map and kind, against the table that the second program
@@ -129,11 +130,13 @@ bench: $(LIBRARY)
 sample: list_run
 	@cd 'samples/$(SAMPLE)' && { ../../$(LIST_RUN) || [ $$? -lt 3 ]; }
 
-# The listing program: proved code, and C for the exit status.
+# The listing program, proved again only where a crate has changed. `rt run` starts what it built, so here it is asked for its version alone.
 list_run: $(LIST_RUN)
-$(LIST_RUN): programs/list_run.c $(LISTING_LIBRARY)
+$(LIST_RUN): $(PROVED)
 	@mkdir -p $(@D)
-	$(CC) $(C_FLAGS) -O2 $(CPPFLAGS) $(CFLAGS) $(LDFLAGS) -o $@ $^ $(OS_CODE)
+	@set -o pipefail; (cd crates/list_run_main && rt run -- --version) 2>&1 | tee $(@D)/list_run.log | { grep --line-buffered '^crate ' || true; } || \
+		{ cat $(@D)/list_run.log; exit 1; }
+	@cp crates/list_run_main/out/list_run_main $@
 
 # The listing program on the corpus and the samples, on files that are missing, not to be read or too long, and with arguments.
 list_run-test: $(LIST_RUN)

@@ -28,17 +28,17 @@ const CRATES: [&str; 2] = ["cases_a", "cases_b"];
 
 /// What every file of theorems begins with.
 const HEAD: &str = "-- Cases of the corpus, each computed by the definitions.
-use Prim.Native.Nat.{ℕ}
-use mathlib.Core.Path.{_≡_, refl}
-use mathlib.Core.List.{List, [], _∷_, _++_}
-use lib.ListN.{replicate}
-use Rattle·model.specs.declared.Answer.{Answer}
-use Rattle·model.specs.declared.Filled.{Filled}
-use Rattle·model.specs.Formats.{itemMaps}
-use Rattle·model.specs.Checks.{checkIn, check, checkBytesIn, checkBytes}
-use Rattle·model.specs.Slips.{writeSlipIn, writeSlip, readSlipIn, readSlip}
-use Rattle·model.specs.Starts.{writeStart, writeStartBytes, readStartInto, readStartIntoBytes}
-use Rattle·model.specs.Listings.{listingIn, listing}
+use Rattle.std.specs.Prelude.{ℕ, ◌≡◌, List, [], ◌∷◌, ◌++◌, replicate}
+use Rattle.std.proofs.Math.Path.{refl}
+use Rattle.model.specs.declared.Answer.{Answer}
+use Rattle.model.specs.declared.Answer.TheVariants as answers
+use Rattle.model.specs.declared.Filled.{Filled}
+use Rattle.model.specs.declared.Filled.TheVariants as filled
+use Rattle.model.specs.Formats.{item_maps}
+use Rattle.model.specs.Checks.{check_in, check, check_bytes_in, check_bytes}
+use Rattle.model.specs.Slips.{write_slip_in, write_slip, read_slip_in, read_slip}
+use Rattle.model.specs.Starts.{write_start, write_start_bytes, read_start_into, read_start_into_bytes}
+use Rattle.model.specs.Listings.{listing_in, listing}
 ";
 
 /// A theorem and the name of its case.
@@ -97,11 +97,11 @@ fn copy_model(from: &Path, to: &Path) -> Result<(), String> {
 /// What a definition computes by, in today's format. Slip reader and starts have no items, and starts are today's alone.
 fn unfolded(definition: &str) -> String {
     match definition {
-        "readSlip" => String::from("readSlipIn"),
-        "writeStart" | "writeStartBytes" | "readStartInto" | "readStartIntoBytes" => {
+        "read_slip" => String::from("read_slip_in"),
+        "write_start" | "write_start_bytes" | "read_start_into" | "read_start_into_bytes" => {
             String::from(definition)
         }
-        _ => format!("itemMaps {definition}In"),
+        _ => format!("item_maps {definition}_in"),
     }
 }
 

@@ -93,9 +93,9 @@ fn input(case: &CheckCase) -> String {
 /// The whole check on these two lists, by the definition for entries or by that for bytes.
 fn outcome(definition: &'static str, case: &CheckCase, order: &Lent, cells: &Lent) -> Theorem {
     let answer = match &case.answer {
-        Expected::Order(groups) => format!("Answer.Order {}", groups.len()),
-        Expected::Ring(groups) => format!("Answer.Ring {}", groups.len()),
-        Expected::Refused(why) => refused("Answer", *why),
+        Expected::Order(groups) => format!("answers.Order {}", groups.len()),
+        Expected::Ring(groups) => format!("answers.Ring {}", groups.len()),
+        Expected::Refused(why) => refused("answers", *why),
     };
     Theorem {
         definition,
@@ -122,7 +122,7 @@ fn checked(case: &CheckCase) -> Vec<Theorem> {
     let on_bytes = |order_odd: usize, cells_odd: usize| {
         let order = bytes(case.order_entries, &groups, order_odd);
         let cells = bytes(case.cell_entries, &case.cells, cells_odd);
-        outcome("checkBytes", case, &order, &cells)
+        outcome("check_bytes", case, &order, &cells)
     };
     let order = Lent {
         length: case.order_entries,
@@ -148,8 +148,8 @@ fn filled(
     memory: &Lent,
 ) -> Theorem {
     let answer = match answer {
-        Ok(entries) => format!("Filled.Entries {entries}"),
-        Err(why) => refused("Filled", why),
+        Ok(entries) => format!("filled.Entries {entries}"),
+        Err(why) => refused("filled", why),
     };
     Theorem {
         definition,
@@ -163,7 +163,7 @@ fn filled(
 
 /// The slip of a case in memory longer by a byte, and 15 in memory shorter by one; or the case's refusal.
 fn slips_written(case: &CheckCase) -> Vec<Theorem> {
-    let written = |answer, memory: &Lent| filled("writeSlip", &input(case), answer, memory);
+    let written = |answer, memory: &Lent| filled("write_slip", &input(case), answer, memory);
     match (&case.slip, &case.answer) {
         (Some(slip), _) => vec![
             written(Ok(slip.len()), &Lent::roomy(slip)),
@@ -184,10 +184,10 @@ fn told(case: &CheckCase) -> String {
         .split(' ')
         .collect();
     match words[..] {
-        ["order", count] => format!("Answer.Order {count}"),
-        ["ring", count] => format!("Answer.Ring {count}"),
+        ["order", count] => format!("answers.Order {count}"),
+        ["ring", count] => format!("answers.Ring {count}"),
         ["refused", number, place] => {
-            format!("Answer.Refused (record {{ number = {number}; place = {place} }})")
+            format!("answers.Refused (record {{ number = {number}; place = {place} }})")
         }
         _ => panic!("{}: a listing of another form", case.name),
     }
@@ -207,7 +207,7 @@ fn listed(case: &CheckCase) -> Vec<Theorem> {
     vec![
         theorem(told(case), text.len(), &Lent::roomy(text)),
         theorem(
-            refused("Answer", too_short(text.len())),
+            refused("answers", too_short(text.len())),
             0,
             &Lent::untouched(text.len() - 1),
         ),
@@ -223,7 +223,7 @@ fn slip_read(case: &SlipCase) -> Theorem {
     };
     let answer = case.answer.as_ref().map(Vec::len).map_err(|why| *why);
     filled(
-        "readSlip",
+        "read_slip",
         &format!("{} {}", case.ranks, list(&case.slip)),
         answer,
         &memory,
@@ -240,7 +240,7 @@ fn start_written(case: &StartWriteCase) -> Vec<Theorem> {
     let answer = case.answer.as_ref().map(Vec::len).map_err(|why| *why);
     let mut bytes = bytes_of(&case.cells);
     bytes.push(7);
-    [("writeStart", &case.cells), ("writeStartBytes", &bytes)]
+    [("write_start", &case.cells), ("write_start_bytes", &bytes)]
         .map(|(definition, cells)| {
             let input = format!("{} {}", list(&case.program), list(cells));
             filled(definition, &input, answer, &memory)
@@ -262,8 +262,8 @@ fn start_read(case: &StartReadCase) -> Vec<Theorem> {
         written,
     };
     vec![
-        filled("readStartInto", &input, answer, &entries),
-        filled("readStartIntoBytes", &input, answer, &bytes),
+        filled("read_start_into", &input, answer, &entries),
+        filled("read_start_into_bytes", &input, answer, &bytes),
     ]
 }
 
