@@ -1,4 +1,4 @@
-//! Links the static library that `rt staticlib lellmusu` writes.
+//! Links the static library that `make library` writes.
 
 /// Where it is written, from this package's folder: a relative path, so that a copy of the repository links its own.
 const FOLDER: &str = "../../target/staticlib";

@@ -1,4 +1,4 @@
-//! Writes corpus cases as theorems about the definitions of `crates/model`; `rt check` then computes them.
+//! Writes corpus cases as theorems about the definitions of `crates/model`; `rt all check` then computes them.
 
 #![forbid(unsafe_code)]
 
