@@ -9,10 +9,9 @@ use Rattle.model.specs.declared.Header.{Header}
 use Rattle.model.specs.declared.Item.{Item}
 use Rattle.model.specs.declared.Kind.{Kind}
 use Rattle.model.specs.declared.Refusal.{Refusal}
-use Rattle.model.specs.Refusals.{◌>>=◌}
 use Rattle.model.specs.Programs.{read_transition}
 use Rattle.model.specs.Machine.{Action, Access}
-use Rattle.model.specs.ItemKinds.{same_kind, command}
+use Rattle.model.specs.ItemKinds.{same_kind}
 use Rattle.model.specs.Replay.{group_of, agrees_with, access_of}
 use Rattle.memory.specs.Tables.{Table, registers_size, row_at, control_at, control_stored}
 use Rattle.transitions.specs.declared.transition.Transition.{Transition}

@@ -1,7 +1,6 @@
 -- What an action does to the arrays, against what it does to the machine's state.
 use Prim.Native.Nat.{ℕ, ◌+◌, ◌<◌}
 use mathlib.Core.Path.{◌≡◌, refl}
-use Rattle.model.specs.Refusals.{◌>>=◌}
 use Rattle.model.specs.Machine.{Action, loads, stores, assigns, passes, issues, meets, State, address, set_requests}
 use Rattle.model.specs.Replay.{access_of, Origin, perform}
 use Rattle.model.specs.Limits.{max_items, max_cells}

@@ -5,7 +5,7 @@ use Rattle.model.specs.declared.Item.{Item}
 use Rattle.model.specs.Refusals.{Result, refuse, require, ◌>>=◌, wrong_transition}
 use Rattle.model.specs.Programs.{read_transition}
 use Rattle.model.specs.Machine.{Action, loads, stores, assigns, passes, issues, meets}
-use Rattle.model.specs.ItemKinds.{same_kind, command}
+use Rattle.model.specs.ItemKinds.{same_kind}
 use Rattle.model.specs.Replay.{group_of, access_of}
 use Rattle.memory.specs.Tables.{registers_size, cells_size, row_at, stored, control_at, control_stored}
 use Rattle.queues.specs.Transfers.{appended}

@@ -11,22 +11,7 @@ use Rattle.model.specs.Refusals.{ok, program_length, program_range}
 use Rattle.model.specs.Refusals as Refusals
 use Rattle.model.specs.Choice.{lookup}
 use Rattle.model.specs.Bytes.{Found, Reader, found, byte, word, judged}
-use Rattle.model.specs.Expressions.{
-  Counted,
-  Expression,
-  Token,
-  constant_token,
-  register_token,
-  own_rank_token,
-  rank_count_token,
-  operator_token,
-  tokens,
-  no_token_left,
-  after_token,
-  on_token,
-  read_expression,
-  expression,
-}
+use Rattle.model.specs.Expressions.{Counted, Expression, Token, constant_token, register_token, own_rank_token, rank_count_token, operator_token, tokens, no_token_left, after_token, on_token, read_expression}
 use Rattle.model.proofs.Laws.{bind_assoc, bind_cong, bind_ok, ok_injective, refused≢ok}
 use Rattle.expressions.specs.Values.{token_byte}
 

@@ -1,11 +1,11 @@
 -- No line is long: a line is a few words, and a few numbers of at most twenty digits.
 use Prim.Native.Nat.{ℕ, ◌≤◌, ◌<◌, ◌^◌}
-use mathlib.Core.Path.{◌≡◌, ap}
+use mathlib.Core.Path.{◌≡◌}
 use mathlib.Core.Bool.{Bool, true, false}
 use native.Mathlib.Omega.{arith}
 use lib.ListN.{length, length-append}
 use Rattle.model.specs.declared.Kind.{Kind}
-use Rattle.model.specs.Listings.{decimal, line}
+use Rattle.model.specs.Listings.{line}
 use Rattle.verdicts.specs.Judged.{answer_of}
 use Rattle.lines.specs.Lines.{answer_line, group_entry, cell_entry}
 use Rattle.model.proofs.Listings.{decimal_few, kind_short}

@@ -1,5 +1,5 @@
 -- Link and unlink on the lists of all ranks: one list changes, and the others stay, since an entry stands in one list only.
-use Prim.Native.Nat.{ℕ, ◌+◌, ◌<◌}
+use Prim.Native.Nat.{ℕ, ◌<◌}
 use mathlib.Core.Path.{◌≡◌, sym, ap, subst, ◌∙◌}
 use mathlib.Core.Logic.{◌≢◌}
 use mathlib.Core.Bool.{◌&&◌}
@@ -13,7 +13,7 @@ use Rattle.memory.specs.Tables.{Table, Row, Rank, Shaped}
 use Rattle.memory.proofs.Stores.{same_place, other_place}
 use Rattle.entries.specs.Entries.{pool_size}
 use Rattle.links.specs.Lists.{Queues, tables, lists_of_rank, tail_end, follower, end_of, linked, unlinked}
-use Rattle.links.specs.Chains.{first, last_or, All, Once, Chain, Standing, Chained}
+use Rattle.links.specs.Chains.{last_or, All, Once, Chain, Standing, Chained}
 use Rattle.links.proofs.EntryLists.{all_append, all_left, all_but, all_middle, all_last, all_map}
 use Rattle.links.proofs.EntryLists.{all_both, once_apart, once_but, once_more, run_kept}
 use Rattle.links.proofs.Changes.{Changed, linked_changed, unlinked_changed}

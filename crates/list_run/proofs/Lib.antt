@@ -1,3 +1,4 @@
 pub mod Asking
+pub mod Fronts
 pub mod Running
 pub mod FilesListed

@@ -11,7 +11,6 @@ use Rattle.model.specs.Bytes.{Found, found}
 use Rattle.bitmap.specs.Bitmaps.{without_lowest}
 use Rattle.bitmap.proofs.Bits.{Nonzero, without_fits}
 use Rattle.fields.specs.declared.Field.{Field}
-use Rattle.fields.specs.declared.Field.TheVariants as Field
 use Rattle.fields.specs.Fields.{field_of, field_refusal}
 use Rattle.fields.proofs.Fields.{field_told}
 use Rattle.marked.specs.declared.reader.ValuesRead.{ValuesRead}

@@ -1,7 +1,6 @@
 -- What a store into a table changes: one number of one row. The table's function afterwards is the function with one value put.
 use Prim.Native.Nat.{ℕ, ◌-◌, ◌<◌}
 use mathlib.Core.Path.{◌≡◌, refl, ap, sym, ◌∙◌, subst}
-use mathlib.Core.Logic.{◌≢◌}
 use mathlib.Core.Bool.{true, false, ◌&&◌, false≢true}
 use mathlib.Core.List.{[]}
 use native.Mathlib.Omega.{arith}

@@ -18,7 +18,6 @@ use Rattle.model.specs.declared.Item.{Item}
 use Rattle.model.specs.declared.Kind.{Kind}
 use Rattle.model.specs.declared.Refusal.{Refusal}
 use Rattle.model.specs.Limits.{max_cells, max_registers, max_queues, max_states, short_transitions, long_count, max_items}
-use Rattle.model.specs.Refusals as Refusals
 use Rattle.model.specs.Refusals.{ok, refused, program_length, program_range, record_length, record_range}
 use Rattle.model.specs.Choice.{between, lookup, member}
 use Rattle.model.specs.Bytes.{Found, Reader, ◌>>=◌, here, byte, word, judged, optional, times, whole}

@@ -8,7 +8,6 @@ use lib.ListN.{length, take, drop}
 use lib.Seq.{take-append_seam}
 use borrow.Author.Tests.{le-leb, lt-leb}
 use Rattle.model.specs.declared.Filled.{Filled}
-use Rattle.model.specs.declared.Filled.TheVariants as Filled
 use Rattle.model.specs.Refusals.{Result, ok, refused, memory_too_short}
 use Rattle.model.specs.Checks.{fill}
 use Rattle.model.specs.Lending.{answering, lend}

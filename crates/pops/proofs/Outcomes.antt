@@ -4,7 +4,6 @@ use mathlib.Core.Path.{◌≡◌}
 use mathlib.Core.Bool.{true, false}
 use Rattle.model.specs.declared.Item.{Item}
 use Rattle.model.specs.Machine.{read_of, write_of, cell_at}
-use Rattle.model.specs.ItemKinds.{delivery}
 use Rattle.model.specs.Replay.{agrees_with}
 use Rattle.memory.specs.Tables.{cells_size, stored, Table}
 use Rattle.links.specs.declared.Position.{Position}

@@ -14,7 +14,7 @@ use Rattle.links.specs.declared.Part.TheVariants.{Requests, Deliveries}
 use Rattle.entries.specs.Entries.{pool_size, value_field, link_field, request_at, delivery_at, request_stored}
 use Rattle.links.specs.Lists.{Queues, tables, lists_of_rank, list_of}
 use Rattle.links.specs.Lists.{field_of, with_field, linked, unlinked}
-use Rattle.links.specs.Chains.{first, last_or, All, Standing, Chained}
+use Rattle.links.specs.Chains.{last_or, All, Standing, Chained}
 use Rattle.queues.specs.Transfers.{Room, appended, fetched, delivered}
 use Rattle.queues.specs.Queued.{bare_request, bare_delivery, sent, Queued}
 use Rattle.queues.proofs.Calls.{there_room}

@@ -5,7 +5,6 @@ use mathlib.Core.Path.{◌≡◌, sym, ap, ap₂, fun_ext, ◌∙◌}
 use mathlib.Core.List.{List, map}
 use lib.ListN.{length, take, length-map}
 use Rattle.model.specs.declared.Filled.{Filled}
-use Rattle.model.specs.declared.Filled.TheVariants as Filled
 use Rattle.model.specs.Limits.{max_ranks}
 use Rattle.model.specs.Refusals as Refusals
 use Rattle.model.specs.Refusals.{Result, ok, refused, require, slip_form}

@@ -15,11 +15,9 @@ use Rattle.model.specs.StartBytes.{start_map}
 use Rattle.model.proofs.Laws.{told}
 use Rattle.model.proofs.Bytes.{finds_byte}
 use Rattle.fields.specs.declared.Field.{Field}
-use Rattle.fields.specs.declared.Field.TheVariants as Field
 use Rattle.fields.specs.Fields.{field_of, field_refusal}
 use Rattle.fields.proofs.Fields.{field_told}
 use Rattle.start_cells.specs.declared.maps.MapRead.{MapRead}
-use Rattle.start_cells.specs.declared.maps.MapRead.TheVariants as MapRead
 use Rattle.start_cells.specs.Answers.{map_read}
 
 -- So many bytes are read, and these are left.

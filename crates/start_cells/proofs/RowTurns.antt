@@ -20,7 +20,6 @@ use Rattle.marked.specs.Maps.{no_values}
 use Rattle.marked.specs.Reading.{values_at, ended_of, values_read}
 use Rattle.marked.proofs.Ends.{ended_refused, ended_at, values_refused, values_found}
 use Rattle.start_cells.specs.declared.maps.MapRead.{MapRead}
-use Rattle.start_cells.specs.declared.maps.MapRead.TheVariants as MapRead
 use Rattle.start_cells.specs.declared.StartRead.TheVariants as StartRead
 use Rattle.model.proofs.Laws.{refused≢ok}
 use Rattle.start_cells.specs.Reading.{row_reader, with_row, rows_from, cells_read}

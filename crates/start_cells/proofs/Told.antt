@@ -12,7 +12,6 @@ use Rattle.model.specs.StartBytes.{read_start}
 use Rattle.memory.specs.Tables.{Table, cells_size}
 use Rattle.memory.specs.Made.{table_of}
 use Rattle.start_cells.specs.declared.StartRead.{StartRead}
-use Rattle.start_cells.specs.declared.StartRead.TheVariants as StartRead
 use Rattle.start_cells.specs.Reading.{cells_read}
 use Rattle.start_cells.specs.Answers.{start_read, cells_after, ReadsInto}
 use Rattle.start_cells.proofs.Readings.{tabled, cells_read_lem}

@@ -7,9 +7,7 @@ use Rattle.memory.specs.Tables.{Table}
 use Rattle.marked.specs.declared.reader.Ended.{Ended}
 use Rattle.marked.specs.Reading.{ended_of}
 use Rattle.start_cells.specs.declared.maps.MapRead.{MapRead}
-use Rattle.start_cells.specs.declared.maps.MapRead.TheVariants as MapRead
 use Rattle.start_cells.specs.declared.StartRead.{StartRead}
-use Rattle.start_cells.specs.declared.StartRead.TheVariants as StartRead
 
 -- A map and the place after it, or the refusal.
 abbrev pub map_read : Result (Found ℕ) → MapRead

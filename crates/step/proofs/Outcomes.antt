@@ -9,7 +9,7 @@ use Rattle.model.specs.declared.Header.{Header}
 use Rattle.model.specs.declared.Item.{Item}
 use Rattle.model.specs.declared.Kind.TheVariants.{Popa, Popb}
 use Rattle.model.specs.Limits.{max_transitions}
-use Rattle.model.specs.Refusals.{◌>>=◌, barrier_row}
+use Rattle.model.specs.Refusals.{barrier_row}
 use Rattle.model.specs.ItemKinds.{same_kind}
 use Rattle.model.specs.Replay.{row_allows}
 use Rattle.items.specs.declared.rows.Progress.{Progress}

@@ -1,5 +1,4 @@
 -- `first_items`: what is left of the items, from where the loop stands, is what all of them are from the start.
-use Prim.Native.Nat.{◌-◌}
 use mathlib.Core.Path.{sym, ◌∙◌}
 use Rattle.record.proofs.Items.{item_found, item_refused}
 use Rattle.first_items.proofs.Turns.{from_start, none_left, turn_unread, turn_noted}

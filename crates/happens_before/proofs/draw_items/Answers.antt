@@ -1,5 +1,4 @@
 -- `draw_items`: each turn is a law of `Turns`.
-use Prim.Native.Nat.{◌-◌}
 use mathlib.Core.Path.{◌∙◌, sym}
 use native.Mathlib.Omega.{arith}
 use Rattle.happens_before.proofs.Turns.{cleared_alike, turn_cleared, turn_next, turn_last}

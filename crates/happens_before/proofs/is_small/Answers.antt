@@ -1,5 +1,4 @@
 -- `is_small`: of the items passed none accesses a cell beyond.
-use Prim.Native.Nat.{◌-◌}
 use mathlib.Core.Bool.{false≢true}
 use native.Mathlib.Omega.{arith}
 use Rattle.happens_before.proofs.Turns.{inside_none, inside_next, inside_all}

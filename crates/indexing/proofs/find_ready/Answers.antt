@@ -1,5 +1,4 @@
 -- `indexing::find_ready`: what is left of the groups, from where the search stands, is what all of them are from the start.
-use Prim.Native.Nat.{◌-◌}
 use mathlib.Core.Path.{sym, ◌∙◌}
 use native.Mathlib.Nat.{sub-zero}
 use Rattle.indexing.proofs.Cases.{ready_turn, ready_done}

@@ -1,5 +1,4 @@
 -- `indexing::index_edges`: what is left of the arrows, from where the loop stands, is what all of them are from the start.
-use Prim.Native.Nat.{◌-◌}
 use mathlib.Core.Path.{sym, ◌∙◌}
 use native.Mathlib.Nat.{sub-zero}
 use Rattle.indexing.proofs.Cases.{edges_turn, edges_done}

@@ -1,10 +1,5 @@
 -- `lines::group_length` meets its contract: five fields with what stands between them. Each has few bytes, so the sum does not wrap.
-use Prim.Native.Nat.{ℕ, ◌+◌, ◌≤◌, ◌<◌, ◌^◌}
-use mathlib.Core.Path.{◌≡◌}
 use native.Mathlib.Omega.{arith}
-use lib.ListN.{length}
-use Rattle.model.specs.declared.Kind.{Kind}
-use Rattle.model.specs.Listings.{decimal, kind_word}
 use Rattle.model.proofs.Listings.{decimal_few, kind_short}
 use Rattle.lines.proofs.GroupLines.{group_length}
 use Rattle.lines.proofs.group_length.Goals as goal

@@ -1,6 +1,5 @@
 -- `lists::write_cells` meets its contract. The invariant: the cells of so many ranks are written.
 use borrow.Author.Rules.{rules}
-use Prim.Native.Nat.{◌-◌}
 use mathlib.Core.Path.{sym, ◌∙◌}
 use native.Mathlib.Omega.{arith}
 use Rattle.model.proofs.Laws.{when_true, when_false}

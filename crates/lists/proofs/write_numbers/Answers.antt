@@ -1,5 +1,4 @@
 -- `lists::write_numbers` meets its contract. The invariant: so many numbers are pasted.
-use Prim.Native.Nat.{◌-◌}
 use mathlib.Core.Path.{refl, sym, ◌∙◌}
 use Rattle.model.proofs.Laws.{when_true, when_false}
 use Rattle.lists.specs.Written.{numbers_written}

@@ -1,5 +1,4 @@
 -- `lists::write_words` meets its contract. The invariant: the bytes of so many numbers are pasted.
-use Prim.Native.Nat.{◌-◌}
 use mathlib.Core.Path.{sym, ◌∙◌}
 use native.Mathlib.Omega.{arith}
 use lib.ListN.{length-set}

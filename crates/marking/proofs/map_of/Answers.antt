@@ -1,5 +1,4 @@
 -- `map_of` meets its contract. The invariant: the map of the values passed.
-use Prim.Native.Nat.{◌-◌}
 use Rattle.marking.proofs.Mapping.{mapping_none, mapping_with, mapping_without, mapping_all}
 use Rattle.marking.proofs.map_of.Goals as goal
 use Rattle.marking.proofs.map_of.Goals.{then-values-bit-gt0, else-values-bit-gt0}

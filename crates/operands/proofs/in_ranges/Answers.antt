@@ -1,7 +1,6 @@
 -- `in_ranges`: the operands are tested in the definition's order, and each that fails is the same refusal.
 use borrow.Author.Tests.{lt-ltb, le-ltb}
 use mathlib.Core.Path.{◌∙◌, sym}
-use mathlib.Core.Bool.{true}
 use Rattle.operands.specs.Operands.{in_ranges}
 use Rattle.operands.proofs.in_ranges.Goals as goal
 

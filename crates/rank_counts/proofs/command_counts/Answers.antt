@@ -1,5 +1,5 @@
 -- `command_counts` meets its contract. The invariant: the rows passed are tallied.
-use Prim.Native.Nat.{◌-◌, ◌≤◌}
+use Prim.Native.Nat.{◌≤◌}
 use native.Mathlib.Nat.{min-le_right}
 use native.Mathlib.Omega.{arith}
 use Rattle.model.specs.Limits.{max_items}

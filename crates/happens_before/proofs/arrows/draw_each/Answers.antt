@@ -2,7 +2,6 @@
 use mathlib.Core.Path.{refl, sym, ◌∙◌}
 use native.Mathlib.Omega.{arith}
 use Rattle.chains.proofs.Chains.{older_lower}
-use Rattle.happens_before.specs.Drawn as Drawn
 use Rattle.happens_before.proofs.Adding.{each_done, each_turn}
 use Rattle.happens_before.proofs.arrows.draw_each.Goals as goal
 

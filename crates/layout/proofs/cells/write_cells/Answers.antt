@@ -1,5 +1,5 @@
 -- `write_cells`: the ranks that are left, from where the loop stands, are what all of them are from the start.
-use Prim.Native.Nat.{◌-◌, ◌≤◌}
+use Prim.Native.Nat.{◌≤◌}
 use native.Mathlib.Omega.{arith}
 use borrow.Author.Rules.{rules}
 use Rattle.layout.proofs.Laid.{going_none, going_all, going_length, no_ranks, rank_more}

@@ -1,5 +1,5 @@
 -- `write_groups`: the lines that are left, from where the loop stands, are what all of them are from the start.
-use Prim.Native.Nat.{◌-◌, ◌≤◌}
+use Prim.Native.Nat.{◌≤◌}
 use mathlib.Core.Path.{ap}
 use native.Mathlib.Omega.{arith}
 use native.Mathlib.Nat.{min-le_right}

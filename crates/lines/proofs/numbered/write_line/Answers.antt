@@ -1,6 +1,6 @@
 -- `lines::numbered::write_line` meets its contract. The invariant: the word and so many numbers are written, one behind the other.
 use native.Mathlib.Omega.{arith}
-use Rattle.texts.proofs.Texts.{wrote_none, wrote_inside, grown_inside}
+use Rattle.texts.proofs.Texts.{wrote_none, wrote_inside}
 use Rattle.lines.proofs.Spaced.{lining_none, lining_more, lining_all}
 use Rattle.lines.proofs.numbered.write_line.Goals as goal
 

@@ -1,5 +1,4 @@
 -- `placing::turns::place_ready`: what is left of the turns, from where the placing stands, is what all of them are from the start.
-use Prim.Native.Nat.{◌-◌}
 use mathlib.Core.Path.{sym, ◌∙◌}
 use native.Mathlib.Nat.{sub-zero}
 use Rattle.placing.proofs.Cases.{turns_done, turn_ends, turn_takes}

@@ -1,5 +1,4 @@
 -- `read_transitions`: the loop keeps `Passed`, and the transitions left fall with each turn. Assumes nothing.
-use Prim.Native.Nat.{◌-◌}
 use native.Mathlib.Omega.{arith}
 use lib.ListN.{replicate}
 use Rattle.model.specs.Limits.{max_registers}

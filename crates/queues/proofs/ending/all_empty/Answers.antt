@@ -1,8 +1,6 @@
 -- `queues::ending::all_empty` meets its contract. The invariant: the queues of the ranks so far are empty.
-use Prim.Native.Nat.{◌-◌}
 use mathlib.Core.Path.{sym, ◌∙◌}
 use native.Mathlib.Omega.{arith}
-use Rattle.queues.specs.Endings.{rank_empty}
 use Rattle.queues.proofs.Every.{passed_none, passed_more, passed_fails, passed_all}
 use Rattle.queues.proofs.ending.all_empty.Goals as goal
 

@@ -1,8 +1,6 @@
 -- `queues::ending::rank_empty` meets its contract. The invariant: the queues so far are empty.
-use Prim.Native.Nat.{◌-◌}
 use mathlib.Core.Path.{sym, ◌∙◌}
 use native.Mathlib.Omega.{arith}
-use Rattle.queues.specs.Endings.{queue_empty}
 use Rattle.queues.proofs.Every.{passed_none, passed_more, passed_fails, passed_all}
 use Rattle.queues.proofs.ending.rank_empty.Goals as goal
 

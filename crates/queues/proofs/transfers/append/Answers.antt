@@ -1,8 +1,7 @@
 -- `queues::transfers::append` meets its contract: where there is room, its calls are the definition's.
 use mathlib.Core.Path.{sym, ◌∙◌}
-use mathlib.Core.Bool.{true}
 use native.Mathlib.Omega.{arith}
-use Rattle.queues.specs.Transfers.{has_room, appended}
+use Rattle.queues.specs.Transfers.{appended}
 use Rattle.queues.proofs.Calls.{append_made, room_there}
 use Rattle.queues.proofs.transfers.append.Goals as goal
 

@@ -1,5 +1,4 @@
 -- `list_arrows`: the arrows up to a place are in the lists. Each turn is a law of `Noting`.
-use Prim.Native.Nat.{◌-◌}
 use Rattle.rings.proofs.Noting.{noting_none, noting_no, noting_yes, noting_all}
 use Rattle.rings.proofs.arrows.list_arrows.Goals as goal
 

@@ -1,5 +1,4 @@
 -- `follow`: what was met stands in the array. Each turn is a law of `Round`.
-use Prim.Native.Nat.{◌-◌}
 use Rattle.rings.proofs.Round.{followed_none, followed_more, followed_all}
 use Rattle.rings.proofs.nexts.follow.Goals as goal
 

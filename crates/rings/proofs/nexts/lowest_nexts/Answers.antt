@@ -1,5 +1,4 @@
 -- `lowest_nexts`: the array has the lowest next groups along the arrows that were gone through. Each turn is a law of `Gathering`.
-use Prim.Native.Nat.{◌-◌}
 use Rattle.rings.proofs.Gathering.{gathered_none, gathered_no, gathered_far, gathered_inside, gathered_yes, gathered_all}
 use Rattle.rings.proofs.nexts.lowest_nexts.Goals as goal
 

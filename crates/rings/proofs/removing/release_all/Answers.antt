@@ -1,5 +1,4 @@
 -- `release_all`: the groups up to here in the queue were released.
-use Prim.Native.Nat.{◌-◌}
 use Rattle.rings.proofs.Thinning.{thinned_same, thinned_room, thinned_more, release_less, released}
 use Rattle.rings.proofs.removing.release_all.Goals as goal
 

@@ -1,5 +1,4 @@
 -- `closest`: no way round of so few arrows was there before. Each turn is a law of `Looking`.
-use Prim.Native.Nat.{◌-◌}
 use Rattle.rings.proofs.Looking.{rooted_first, trying_first, trying_found, trying_all, trying_rooted, trying_less, trying_more}
 use Rattle.rings.proofs.roots.closest.Goals as goal
 

@@ -1,5 +1,4 @@
 -- `explore`: the arrows were gone back into the groups of the queue up to here. Each group is met once, so the queue never overflows.
-use Prim.Native.Nat.{◌-◌}
 use Rattle.rings.proofs.Ending.{exploring_first, goes_back, far_enough, nothing_left, exploring_less, exploring_more}
 use Rattle.rings.proofs.searches.explore.Goals as goal
 

@@ -1,5 +1,4 @@
 -- `maps::eight_bytes`: each turn is a law of `MapBytes`.
-use Prim.Native.Nat.{◌-◌}
 use native.Mathlib.Omega.{arith}
 use Rattle.model.specs.Bytes.{AreBytes}
 use Rattle.start_cells.proofs.MapBytes.{turn_first, turn_refused, turn_fits, turn_next, turn_last}

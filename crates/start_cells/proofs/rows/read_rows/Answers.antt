@@ -1,5 +1,4 @@
 -- `rows::read_rows`: each turn is a law of `RowTurns`.
-use Prim.Native.Nat.{◌-◌}
 use Rattle.start_cells.proofs.RowTurns.{turn_first, turn_refused, turn_kept, turn_passed, turn_last}
 use Rattle.start_cells.proofs.rows.read_rows.Goals as goal
 use Rattle.start_cells.proofs.rows.read_rows.Goals.{then-row-lt-RANKS, else-row-lt-RANKS}

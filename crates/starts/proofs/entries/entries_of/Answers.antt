@@ -1,5 +1,4 @@
 -- `entries::entries_of` meets its contract. The invariant: so many entries are made.
-use Prim.Native.Nat.{◌-◌}
 use mathlib.Core.Path.{refl}
 use Rattle.memory.proofs.Filled.{filling_none, filling_more, filling_all}
 use Rattle.starts.proofs.CellLists.{two_from}

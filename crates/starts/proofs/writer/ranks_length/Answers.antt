@@ -1,5 +1,4 @@
 -- `writer::ranks_length` meets its contract. The invariant: the bytes of so many ranks are counted.
-use Prim.Native.Nat.{◌-◌}
 use native.Mathlib.Omega.{arith}
 use Rattle.starts.proofs.RankTurns.{counting_none, counting_more, counting_all, row_small, row_inside, length_small}
 use Rattle.starts.proofs.writer.ranks_length.Goals as goal

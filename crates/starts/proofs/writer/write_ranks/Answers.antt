@@ -1,5 +1,4 @@
 -- `writer::write_ranks` meets its contract. The invariant: the bytes of so many ranks stand in front.
-use Prim.Native.Nat.{◌-◌}
 use native.Mathlib.Omega.{arith}
 use Rattle.starts.proofs.RankTurns.{putting_none, putting_more, putting_all}
 use Rattle.starts.proofs.RankTurns.{row_small, row_inside, length_small, behind_inside, rank_room}

@@ -1,5 +1,4 @@
 -- `texts::words::write_word` meets its contract. The invariant: so many of the word's bytes are pasted.
-use Prim.Native.Nat.{◌-◌}
 use mathlib.Core.Path.{refl, ◌∙◌}
 use native.Mathlib.Omega.{arith}
 use Rattle.lists.proofs.Pasted.{pasting_none, pasting_more, pasting_all}
