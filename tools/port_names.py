@@ -17,7 +17,7 @@ COMMENT = re.compile(r"--[^\n]*")
 
 
 def odd(word):
-    return bool(not word[0].isupper() and re.search(r"[a-zA-Z]", word) and re.search(r"[a-z0-9'ℕ]-[a-z0-9*]|[a-z0-9][A-Z]", word) and re.fullmatch(r"[a-zA-Z0-9_'-]+", word))
+    return bool(not word[0].isupper() and re.search(r"[a-zA-Z]", word) and re.search(r"[a-z0-9'?₀-₉]-[a-z0-9]|[a-z0-9][A-Z]", word) and re.fullmatch(r"[a-zA-Z0-9_'?₀-₉-]+", word))
 
 
 def snake(word):

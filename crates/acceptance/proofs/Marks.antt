@@ -8,7 +8,7 @@ use Rattle.model.specs.Programs.{Program}
 use Rattle.model.specs.Machine.{State, Request, Delivery, Action, loads, stores, assigns, passes, issues, meets, address, cell_at, move_to, set_register, set_cell, set_requests, set_deliveries}
 use Rattle.model.specs.Rules.{Bare, ask, send}
 use Rattle.model.specs.Replay.{Origin, Replay, perform, sent_on, after_fetch, after_delivery}
-use Rattle.model.proofs.Laws.{put₂-map}
+use Rattle.model.proofs.Laws.{put₂_map}
 use Rattle.acceptance.specs.Bare.{bare, bare_request, bare_delivery}
 
 -- A queue with its marks erased is set to a list with its marks erased.
@@ -26,7 +26,7 @@ module _ {Mark : Type 0} (s : State Mark) (rank queue : ℕ) where
         requests = requests;
         deliveries = (bare s).deliveries;
       })
-      (put₂-map (map bare_request) s.requests rank queue entries)
+      (put₂_map (map bare_request) s.requests rank queue entries)
 
   pub bare_set_deliveries : (entries : List (Delivery Mark)) →
       bare (set_deliveries s rank queue entries) ≡ set_deliveries (bare s) rank queue (map bare_delivery entries)
@@ -41,7 +41,7 @@ module _ {Mark : Type 0} (s : State Mark) (rank queue : ℕ) where
         requests = (bare s).requests;
         deliveries = deliveries;
       })
-      (put₂-map (map bare_delivery) s.deliveries rank queue entries)
+      (put₂_map (map bare_delivery) s.deliveries rank queue entries)
 
 -- The successor state of Table 1's rules, by what rank r's command asks for and where it moves.
 unfoldable pub successor : Program → Bare → (r : ℕ) → Action → (q₂ : ℕ) → Bare

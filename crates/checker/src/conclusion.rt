@@ -19,7 +19,7 @@ pub struct Room {
 }
 
 // The answer; the groups that are listed, so many; and how many ranks' cells are listed, and how many of each rank.
-#[derive(Drop)]
+#[derive(Clone, Copy)]
 pub struct Concluded {
     pub answer: Answer,
     pub count: usize,

@@ -10,7 +10,7 @@ use lib.ListN.{length, get_elem?, length-append, length-map}
 use Rattle.model.specs.Choice.{numbers_from}
 use Rattle.model.specs.Checks.{for_each_rank, rank_by_rank, last_cells, Accepted}
 use Rattle.model.specs.Rules.{Rank, Cell}
-use Rattle.model.proofs.Laws.{getElem?-front, getElem?-behind}
+use Rattle.model.proofs.Laws.{get_elem?_front, get_elem?_behind}
 use Rattle.demands.specs.Demands.{cells_of}
 
 -- A list that a function of numbers makes.
@@ -54,11 +54,11 @@ module _ {A : Type 0} (count : ℕ) (f : ℕ → ℕ → A) where
       let z : 0 * count + cell ≡ cell = omega (arith, zero-mul count) in
       let n : first + 0 ≡ first = omega arith in
       let c : 0 + cell ≡ cell = omega arith in
-      rw (z, n) (getElem?-front (row first) (others first ranks) cell (rw c at (at_number (f first) 0 count cell k)))
+      rw (z, n) (get_elem?_front (row first) (others first ranks) cell (rw c at (at_number (f first) 0 count cell k)))
   at_row first (suc ranks) (suc i) cell h k =
       let z : suc i * count + cell ≡ length (row first) + (i * count + cell) = omega (arith, suc-mul i count, row_length first) in
       let n : first + suc i ≡ first + 1 + i = omega arith in
-      rw (z, n) (getElem?-behind (row first) (others first ranks) (i * count + cell) ∙ at_row (first + 1) ranks i cell (omega arith) k)
+      rw (z, n) (get_elem?_behind (row first) (others first ranks) (i * count + cell) ∙ at_row (first + 1) ranks i cell (omega arith) k)
 
 -- The last cells of an accepted record: how many they are, and where each one stands.
 module _ (a : Accepted) where

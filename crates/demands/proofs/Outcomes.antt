@@ -15,7 +15,7 @@ use Rattle.model.specs.Bytes.{AreBytes}
 use Rattle.model.specs.Rules.{Rank, Cell}
 use Rattle.model.specs.Orders.{Verdict, ordered, cyclic}
 use Rattle.model.specs.Checks.{accept, verdict_on, last_cells, Accepted, fill, Outcome, listed, answered, Verdicts, check_result_in, check_result}
-use Rattle.model.proofs.Laws.{bind_ok, required, ok_injective, refused≢ok, getElem?-front}
+use Rattle.model.proofs.Laws.{bind_ok, required, ok_injective, refused≢ok, get_elem?_front}
 use Rattle.ordering.specs.Orders.{TopologicalOrder, ShortestRing}
 use Rattle.ordering.proofs.Orders.{cycle_length}
 use Rattle.serializability.specs.Claim.{Serializable}
@@ -67,7 +67,7 @@ pub cell_read : (form : Form) (cells : List ℕ) (a : Accepted) (rank cell : ℕ
     some (a.run.last.machine.cells rank cell)
 cell_read form cells a rank cell r c =
     rw (filled_entries form (last_cells a) cells)
-    (getElem?-front (last_cells a) _ ((rank - 1) * a.program.header.cells + cell) (last_cell_at a rank cell r c))
+    (get_elem?_front (last_cells a) _ ((rank - 1) * a.program.header.cells + cell) (last_cell_at a rank cell r c))
 
 -- What is to be written of an accepted record.
 abbrev pub verdicts_of : Accepted → Verdicts

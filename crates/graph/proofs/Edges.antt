@@ -16,7 +16,7 @@ use Rattle.model.specs.Limits.{max_items, max_edges}
 use Rattle.model.specs.Choice.{select, numbers_from}
 use Rattle.model.specs.HappensBefore.{Edge}
 use Rattle.model.specs.Checks.{fill}
-use Rattle.model.proofs.Laws.{decided, and-true, getElem?-bound}
+use Rattle.model.proofs.Laws.{decided, and-true, get_elem?_bound}
 use Rattle.model.proofs.Selections.{select_within}
 use Rattle.memory.specs.Tables.{Table, zeros}
 use Rattle.graph.specs.Edges.{edges_size, source_at, target_at, edge_at, edges_in, edge_row, edge_table, groups_in, among, graph_in}
@@ -52,7 +52,7 @@ module _ (edges : List Edge) (old : Table) (fits : length edges ≤ max_edges) w
   unfolding source_at target_at
   edge_at_lem i e at =
       let row : get_or filled_table i [] ≡ edge_row e = filled_at edge_row edges old [] i at in
-      let inside : ltb i max_edges ≡ true = lt-ltb i max_edges (omega (arith, getElem?-bound edges i at)) in
+      let inside : ltb i max_edges ≡ true = lt-ltb i max_edges (omega (arith, get_elem?_bound edges i at)) in
       let from : source_at filled_table i ≡ e.from = rw (inside, row) in
       let to : target_at filled_table i ≡ e.to = rw (inside, row) in
       λ j. record { from = from j; to = to j }

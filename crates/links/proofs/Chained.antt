@@ -8,7 +8,7 @@ use native.Mathlib.Omega.{arith}
 use lib.Dec.{eqb}
 use Rattle.model.specs.Limits.{max_items}
 use Rattle.model.specs.Machine.{put, put₂}
-use Rattle.model.proofs.Laws.{decided, put_same, put_other, put₂-same, put₂-other}
+use Rattle.model.proofs.Laws.{decided, put_same, put_other, put₂_same, put₂_other}
 use Rattle.memory.specs.Tables.{Table, Row, Rank, Shaped}
 use Rattle.memory.proofs.Stores.{same_place, other_place}
 use Rattle.entries.specs.Entries.{pool_size}
@@ -20,12 +20,12 @@ use Rattle.links.proofs.Changes.{Changed, linked_changed, unlinked_changed}
 use Rattle.links.proofs.Chains.{linked_chain, unlinked_chain}
 
 -- What holds at the changed place and elsewhere holds of a function with one value changed.
-pub put₂-all : {A : Type 0} (f : ℕ → ℕ → A) (i j : ℕ) (v : A) (P : ℕ → ℕ → A → Type 0) → P i j v →
+pub put₂_all : {A : Type 0} (f : ℕ → ℕ → A) (i j : ℕ) (v : A) (P : ℕ → ℕ → A → Type 0) → P i j v →
     ((k l : ℕ) → ¬ ((k ≡ i) × (l ≡ j)) → P k l (f k l)) → (k l : ℕ) → P k l (put₂ f i j v k l)
-put₂-all f i j v P here there k l =
+put₂_all f i j v P here there k l =
     decided (eqb k i && eqb l j)
-    (λ t. let (p, q) = same_place k i l j t in rw (p, q, put₂-same f i j v) here)
-    (λ t. let n = other_place k i l j t in rw (put₂-other f i j v k l n) (there k l n))
+    (λ t. let (p, q) = same_place k i l j t in rw (p, q, put₂_same f i j v) here)
+    (λ t. let n = other_place k i l j t in rw (put₂_other f i j v k l n) (there k l n))
 
 -- Entries of two lists are two entries.
 module _ (owner : ℕ → ℕ × ℕ) {rank list r l : ℕ} (other : ¬ ((r ≡ rank) × (l ≡ list))) where
@@ -53,10 +53,10 @@ exchanged {t} {t'} {entries} {owner} {rank} {list} {previous} {entry} owner' es 
     record {
       pool_shape = changed.pool_shape;
       ends_shape = changed.ends_shape;
-      chains = put₂-all entries rank list es (λ r l xs. Rank r → l < lists_of_rank → Chain t' r l xs) (λ a b. chain)
+      chains = put₂_all entries rank list es (λ r l xs. Rank r → l < lists_of_rank → Chain t' r l xs) (λ a b. chain)
           (λ r l n a b. kept r l n (before.chains r l a b));
-      standing = put₂-all entries rank list es (λ r l xs. All (Standing owner' r l) xs) standing theirs;
-      once = put₂-all entries rank list es (λ r l xs. Once xs) once (λ r l n. before.once r l);
+      standing = put₂_all entries rank list es (λ r l xs. All (Standing owner' r l) xs) standing theirs;
+      once = put₂_all entries rank list es (λ r l xs. Once xs) once (λ r l n. before.once r l);
     }
   where
     kept : (r l : ℕ) → ¬ ((r ≡ rank) × (l ≡ list)) → Chain t r l (entries r l) → Chain t' r l (entries r l)
@@ -144,5 +144,5 @@ module _ {t : Queues} {entries : ℕ → ℕ → List ℕ} {owner : ℕ → ℕ 
 
       pub unlinked_free : (k m : ℕ) → All (λ x. x ≢ e) (put₂ entries rank list (xs ++ ys) k m)
       unlinked_free =
-          put₂-all entries rank list (xs ++ ys) (λ k m es. All (λ x. x ≢ e) es) (once_apart xs e ys once)
+          put₂_all entries rank list (xs ++ ys) (λ k m es. All (λ x. x ≢ e) es) (once_apart xs e ys once)
           (λ k m n. apart_all owner n e (all_middle (Standing owner rank list) xs e ys standing) (entries k m) (held.standing k m))

@@ -17,7 +17,7 @@ pub enum Ended {
 }
 
 // The values, each in the entry of its bit and 0 in the others, and where they end; all are 0 on a refusal.
-#[derive(Drop)]
+#[derive(Clone, Copy)]
 pub struct ValuesRead {
     pub ended: Ended,
     pub values: Values,

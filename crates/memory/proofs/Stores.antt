@@ -9,7 +9,7 @@ use lib.ListN.{length, get_or, set, replicate, length-set, length-replicate, get
 use lib.Seq.{get_or-set_same, get_or-set_other, set_out}
 use borrow.Author.Tests.{ltb-true, ltb-false, eq-eqb, eqb-true, eqb-false}
 use Rattle.model.specs.Machine.{put₂}
-use Rattle.model.proofs.Laws.{decided, and-true, true_and, put₂-same, put₂-other}
+use Rattle.model.proofs.Laws.{decided, and-true, true_and, put₂_same, put₂_other}
 use Rattle.memory.specs.Tables.{Table, Size, Row, row_of, number_at, stored, Shaped, zeros}
 use Rattle.memory.proofs.Tables.{row_of_held, row_below, row_held, number_inside, number_beyond}
 use Rattle.memory.proofs.Tables.{number_outside, stored_inside, stored_beyond, stored_outside}
@@ -108,9 +108,9 @@ module _ (size : Size) (table : Table) (number index value : ℕ) where
   number_put shape r b f other place e =
       decided (eqb other number && eqb place index)
       (λ t. let (p, q) = same_place other number place index t in
-      rw (p, q) (put₂-same f number index value ∙ sym (number_same shape r b)))
+      rw (p, q) (put₂_same f number index value ∙ sym (number_same shape r b)))
       (λ t. let n = other_place other number place index t in
-      put₂-other f number index value other place n ∙ e ∙ sym (number_other other place n))
+      put₂_other f number index value other place n ∙ e ∙ sym (number_other other place n))
 
 -- A table of zeros has its shape, and is 0 everywhere.
 module _ (size : Size) where

@@ -115,35 +115,35 @@ pub put_other : {A : Type 0} (f : ℕ → A) (i : ℕ) (v : A) (j : ℕ) → ¬ 
 unfolding put
 put_other f i v j h = rw (ne_eqb j i h)
 
-pub put₂-same : {A : Type 0} (f : ℕ → ℕ → A) (i j : ℕ) (v : A) → put₂ f i j v i j ≡ v
+pub put₂_same : {A : Type 0} (f : ℕ → ℕ → A) (i j : ℕ) (v : A) → put₂ f i j v i j ≡ v
 unfolding put₂
-put₂-same f i j v = rw (eqb_refl i, eqb_refl j)
+put₂_same f i j v = rw (eqb_refl i, eqb_refl j)
 
-pub put₂-other : {A : Type 0} (f : ℕ → ℕ → A) (i j : ℕ) (v : A) (k l : ℕ) → ¬ ((k ≡ i) × (l ≡ j)) → put₂ f i j v k l ≡ f k l
+pub put₂_other : {A : Type 0} (f : ℕ → ℕ → A) (i j : ℕ) (v : A) (k l : ℕ) → ¬ ((k ≡ i) × (l ≡ j)) → put₂ f i j v k l ≡ f k l
 unfolding put₂
-put₂-other f i j v k l h =
+put₂_other f i j v k l h =
     decided (eqb k i && eqb l j)
     (λ t. absurd (h (eqb-true k i (and-true (eqb k i) (eqb l j) t).0, eqb-true l j (and-true (eqb k i) (eqb l j) t).1)))
     (λ t. rw t)
 
 -- A row of such a function, where one of its own values changes, and where another row's does.
-pub put₂-row : {A : Type 0} (f : ℕ → ℕ → A) (i j : ℕ) (v : A) → put₂ f i j v i ≡ put (f i) j v
+pub put₂_row : {A : Type 0} (f : ℕ → ℕ → A) (i j : ℕ) (v : A) → put₂ f i j v i ≡ put (f i) j v
 unfolding put put₂
-put₂-row f i j v = fun_ext λ l. rw (eqb_refl i)
+put₂_row f i j v = fun_ext λ l. rw (eqb_refl i)
 
-pub put₂-other-row : {A : Type 0} (f : ℕ → ℕ → A) (i j : ℕ) (v : A) (k : ℕ) → ¬ (k ≡ i) → put₂ f i j v k ≡ f k
-put₂-other-row f i j v k other = fun_ext λ l. put₂-other f i j v k l (λ same. other same.0)
+pub put₂_other_row : {A : Type 0} (f : ℕ → ℕ → A) (i j : ℕ) (v : A) (k : ℕ) → ¬ (k ≡ i) → put₂ f i j v k ≡ f k
+put₂_other_row f i j v k other = fun_ext λ l. put₂_other f i j v k l (λ same. other same.0)
 
 -- Such a function, seen through another.
-pub put₂-map : {A B : Type 0} (F : A → B) (f : ℕ → ℕ → A) (i j : ℕ) (v : A) → (λ k l. F (put₂ f i j v k l)) ≡ put₂ (λ k l. F (f k l)) i j (F v)
+pub put₂_map : {A B : Type 0} (F : A → B) (f : ℕ → ℕ → A) (i j : ℕ) (v : A) → (λ k l. F (put₂ f i j v k l)) ≡ put₂ (λ k l. F (f k l)) i j (F v)
 unfolding put₂
-put₂-map F f i j v = fun_ext λ k. fun_ext λ l. decided (eqb k i && eqb l j) (λ t. rw t) (λ t. rw t)
+put₂_map F f i j v = fun_ext λ k. fun_ext λ l. decided (eqb k i && eqb l j) (λ t. rw t) (λ t. rw t)
 
 -- What holds of all its values.
-pub put₂-holds : {A : Type 0} (Holds : A → Type 0) (f : ℕ → ℕ → A) (i j : ℕ) {v : A} → Holds v → ((k l : ℕ) → Holds (f k l)) →
+pub put₂_holds : {A : Type 0} (Holds : A → Type 0) (f : ℕ → ℕ → A) (i j : ℕ) {v : A} → Holds v → ((k l : ℕ) → Holds (f k l)) →
     (k l : ℕ) → Holds (put₂ f i j v k l)
 unfolding put₂
-put₂-holds Holds f i j here others k l = decided (eqb k i && eqb l j) (λ t. rw t here) (λ t. rw t (others k l))
+put₂_holds Holds f i j here others k l = decided (eqb k i && eqb l j) (λ t. rw t here) (λ t. rw t (others k l))
 
 -- What holds of each member: something weaker, two things at once, and of the members of two lists in a row.
 pub each_weaker : {A : Type 0} {Holds Weaker : A → Type 0} {l : List A} → ((a : A) → Holds a → Weaker a) → Each Holds l → Each Weaker l
@@ -160,39 +160,39 @@ each_append all behind = behind
 each_append (one h rest) behind = one h (each_append rest behind)
 
 -- The numbered members of a list.
-pub getElem?-bound : {A : Type 0} (l : List A) (i : ℕ) {a : A} → get_elem? l i ≡ some a → i < length l
-getElem?-bound [] i h = absurd (none-ne-some _ h)
-getElem?-bound (x ∷ l) zero h = zero-lt-suc _
-getElem?-bound (x ∷ l) (suc i) h = omega (arith, getElem?-bound l i h)
+pub get_elem?_bound : {A : Type 0} (l : List A) (i : ℕ) {a : A} → get_elem? l i ≡ some a → i < length l
+get_elem?_bound [] i h = absurd (none-ne-some _ h)
+get_elem?_bound (x ∷ l) zero h = zero-lt-suc _
+get_elem?_bound (x ∷ l) (suc i) h = omega (arith, get_elem?_bound l i h)
 
-pub getElem?-below : {A : Type 0} (l : List A) (i : ℕ) → i < length l → (a : A) × (get_elem? l i ≡ some a)
-getElem?-below [] i h = absurd (not-suc-le-zero h)
-getElem?-below (x ∷ l) zero h = (x, refl)
-getElem?-below (x ∷ l) (suc i) h = getElem?-below l i (le_of_suc-le-suc h)
+pub get_elem?_below : {A : Type 0} (l : List A) (i : ℕ) → i < length l → (a : A) × (get_elem? l i ≡ some a)
+get_elem?_below [] i h = absurd (not-suc-le-zero h)
+get_elem?_below (x ∷ l) zero h = (x, refl)
+get_elem?_below (x ∷ l) (suc i) h = get_elem?_below l i (le_of_suc-le-suc h)
 
 -- Those of a list's front, and of its images.
-pub getElem?-take : {A : Type 0} (l : List A) (i j : ℕ) {a : A} → j < i → get_elem? l j ≡ some a → get_elem? (take i l) j ≡ some a
-getElem?-take [] i j less h = absurd (none-ne-some _ h)
-getElem?-take (x ∷ l) zero j less h = absurd (not-suc-le-zero less)
-getElem?-take (x ∷ l) (suc i) zero less h = h
-getElem?-take (x ∷ l) (suc i) (suc j) less h = getElem?-take l i j (le_of_suc-le-suc less) h
+pub get_elem?_take : {A : Type 0} (l : List A) (i j : ℕ) {a : A} → j < i → get_elem? l j ≡ some a → get_elem? (take i l) j ≡ some a
+get_elem?_take [] i j less h = absurd (none-ne-some _ h)
+get_elem?_take (x ∷ l) zero j less h = absurd (not-suc-le-zero less)
+get_elem?_take (x ∷ l) (suc i) zero less h = h
+get_elem?_take (x ∷ l) (suc i) (suc j) less h = get_elem?_take l i j (le_of_suc-le-suc less) h
 
-pub getElem?-taken : {A : Type 0} (l : List A) (i j : ℕ) {a : A} → get_elem? (take i l) j ≡ some a → (get_elem? l j ≡ some a) × (j < i)
-getElem?-taken l zero j h = absurd (none-ne-some _ h)
-getElem?-taken [] (suc i) j h = absurd (none-ne-some _ h)
-getElem?-taken (x ∷ l) (suc i) zero h = (h, zero-lt-suc i)
-getElem?-taken (x ∷ l) (suc i) (suc j) h = let (there, less) = getElem?-taken l i j h in (there, omega arith)
+pub get_elem?_taken : {A : Type 0} (l : List A) (i j : ℕ) {a : A} → get_elem? (take i l) j ≡ some a → (get_elem? l j ≡ some a) × (j < i)
+get_elem?_taken l zero j h = absurd (none-ne-some _ h)
+get_elem?_taken [] (suc i) j h = absurd (none-ne-some _ h)
+get_elem?_taken (x ∷ l) (suc i) zero h = (h, zero-lt-suc i)
+get_elem?_taken (x ∷ l) (suc i) (suc j) h = let (there, less) = get_elem?_taken l i j h in (there, omega arith)
 
-pub getElem?-map : {A B : Type 0} (f : A → B) (l : List A) (i : ℕ) {a : A} → get_elem? l i ≡ some a → get_elem? (map f l) i ≡ some (f a)
-getElem?-map f [] i h = absurd (none-ne-some _ h)
-getElem?-map f (x ∷ l) zero {a} h = ap (λ y. some (f y)) (some-injective x a h)
-getElem?-map f (x ∷ l) (suc i) h = getElem?-map f l i h
+pub get_elem?_map : {A B : Type 0} (f : A → B) (l : List A) (i : ℕ) {a : A} → get_elem? l i ≡ some a → get_elem? (map f l) i ≡ some (f a)
+get_elem?_map f [] i h = absurd (none-ne-some _ h)
+get_elem?_map f (x ∷ l) zero {a} h = ap (λ y. some (f y)) (some-injective x a h)
+get_elem?_map f (x ∷ l) (suc i) h = get_elem?_map f l i h
 
-pub getElem?-mapped : {A B : Type 0} (f : A → B) (l : List A) (i : ℕ) {b : B} → get_elem? (map f l) i ≡ some b →
+pub get_elem?_mapped : {A B : Type 0} (f : A → B) (l : List A) (i : ℕ) {b : B} → get_elem? (map f l) i ≡ some b →
     (a : A) × (get_elem? l i ≡ some a) × (f a ≡ b)
-getElem?-mapped f [] i h = absurd (none-ne-some _ h)
-getElem?-mapped f (x ∷ l) zero {b} h = (x, refl, some-injective (f x) b h)
-getElem?-mapped f (x ∷ l) (suc i) h = getElem?-mapped f l i h
+get_elem?_mapped f [] i h = absurd (none-ne-some _ h)
+get_elem?_mapped f (x ∷ l) zero {b} h = (x, refl, some-injective (f x) b h)
+get_elem?_mapped f (x ∷ l) (suc i) h = get_elem?_mapped f l i h
 
 pub take_map : {A B : Type 0} (f : A → B) (n : ℕ) (l : List A) → take n (map f l) ≡ map f (take n l)
 take_map f zero l = refl
@@ -206,11 +206,11 @@ each_at {Holds = Holds} l (one {a} holds rest) zero {x} h = subst Holds (some-in
 each_at l (one {rest = others} holds rest) (suc i) h = each_at others rest i h
 
 -- Those of two lists in a row.
-pub getElem?-front : {A : Type 0} (l m : List A) (i : ℕ) {a : A} → get_elem? l i ≡ some a → get_elem? (l ++ m) i ≡ some a
-getElem?-front [] m i h = absurd (none-ne-some _ h)
-getElem?-front (x ∷ l) m zero h = h
-getElem?-front (x ∷ l) m (suc i) h = getElem?-front l m i h
+pub get_elem?_front : {A : Type 0} (l m : List A) (i : ℕ) {a : A} → get_elem? l i ≡ some a → get_elem? (l ++ m) i ≡ some a
+get_elem?_front [] m i h = absurd (none-ne-some _ h)
+get_elem?_front (x ∷ l) m zero h = h
+get_elem?_front (x ∷ l) m (suc i) h = get_elem?_front l m i h
 
-pub getElem?-behind : {A : Type 0} (l m : List A) (i : ℕ) → get_elem? (l ++ m) (length l + i) ≡ get_elem? m i
-getElem?-behind [] m i = let z : 0 + i ≡ i = omega arith in rw z
-getElem?-behind (x ∷ l) m i = let z : suc (length l) + i ≡ suc (length l + i) = omega arith in rw z (getElem?-behind l m i)
+pub get_elem?_behind : {A : Type 0} (l m : List A) (i : ℕ) → get_elem? (l ++ m) (length l + i) ≡ get_elem? m i
+get_elem?_behind [] m i = let z : 0 + i ≡ i = omega arith in rw z
+get_elem?_behind (x ∷ l) m i = let z : suc (length l) + i ≡ suc (length l + i) = omega arith in rw z (get_elem?_behind l m i)

@@ -10,7 +10,7 @@ use native.Mathlib.Omega.{arith}
 use lib.ListN.{length, get_elem?}
 use Rattle.model.specs.Replay.{Event}
 use Rattle.model.specs.HappensBefore.{At, Follows}
-use Rattle.model.proofs.Laws.{getElem?-bound}
+use Rattle.model.proofs.Laws.{get_elem?_bound}
 
 -- The places of a list that is turned round onto another.
 pub turned_rest : {A : Type 0} (before rest : List A) (j k : ℕ) → j ≡ length before + k → get_elem? (reverse_aux before rest) j ≡ get_elem? rest k
@@ -48,7 +48,7 @@ nearest_deeper {before} {test} w t n =
 pub nearest_follows : (before rest : List Event) {test : Event → Bool} {x y : Event} → Nearest before test x →
     Follows (reverse_aux before (y ∷ rest)) test x y
 nearest_follows before rest {y} n =
-    let bound : n.depth < length before = getElem?-bound before n.depth n.lies in
+    let bound : n.depth < length before = get_elem?_bound before n.depth n.lies in
     record {
       i = length before - suc n.depth;
       j = length before;

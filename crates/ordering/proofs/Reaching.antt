@@ -12,7 +12,7 @@ use Rattle.model.specs.Choice.{member}
 use Rattle.model.specs.HappensBefore.{Edge, ◌⟶◌}
 use Rattle.model.specs.Rings.{fewest}
 use Rattle.model.specs.Lists.{◌∈◌, Distinct}
-use Rattle.model.proofs.Laws.{decided, getElem?-bound, getElem?-front}
+use Rattle.model.proofs.Laws.{decided, get_elem?_bound, get_elem?_front}
 use Rattle.model.proofs.Selections.{split_at}
 use Rattle.model.proofs.Lists.{position, member_true, member_false, pigeonhole}
 use Rattle.ordering.specs.Walks.{Along, Walk, stay, step}
@@ -61,13 +61,13 @@ module _ (groups : ℕ) (edges : List Edge) (proper : Proper groups edges) where
           let (l, long, a) = walk_along m w in
           ⊎_elim
           (λ d. (m, omega (arith, long, pigeonhole groups (g ∷ l) d (along_below g l h a)), w))
-          (λ t. let late : t.j < suc m = omega (arith, getElem?-bound (g ∷ l) t.j t.second, long) in
+          (λ t. let late : t.j < suc m = omega (arith, get_elem?_bound (g ∷ l) t.j t.second, long) in
           let to : Walk edges t.i g t.x =
-          walk_between edges g (l ++ h ∷ []) a 0 t.i t.i refl (getElem?-front (g ∷ l) (h ∷ []) t.i t.first) (omega arith) in
+          walk_between edges g (l ++ h ∷ []) a 0 t.i t.i refl (get_elem?_front (g ∷ l) (h ∷ []) t.i t.first) (omega arith) in
           let ends : get_elem? (g ∷ (l ++ h ∷ [])) (suc m) ≡ some h =
           subst (λ (k : ℕ). get_elem? (l ++ h ∷ []) k ≡ some h) long (split_at l h []) in
           let on : Walk edges (suc m - t.j) t.x h =
-          walk_between edges g (l ++ h ∷ []) a t.j (suc m) (suc m - t.j) (getElem?-front (g ∷ l) (h ∷ []) t.j t.second) ends (omega (arith, late)) in
+          walk_between edges g (l ++ h ∷ []) a t.j (suc m) (suc m - t.j) (get_elem?_front (g ∷ l) (h ∷ []) t.j t.second) ends (omega (arith, late)) in
           let fewer : t.i + (suc m - t.j) ≡ suc (t.i + (m - t.j)) = omega (arith, late) in
           go turns (t.i + (m - t.j)) (omega (arith, late, t.before, enough))
           (subst (λ (k : ℕ). Walk edges k g h) fewer (walk_join to on)))

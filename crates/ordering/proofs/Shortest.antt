@@ -12,7 +12,7 @@ use borrow.Author.Tests.{ltb-true, ltb-false}
 use Rattle.model.specs.HappensBefore.{Edge}
 use Rattle.model.specs.Rings.{Closing, closed_walk, ring}
 use Rattle.model.specs.Lists.{◌∈◌, Distinct, Rising}
-use Rattle.model.proofs.Laws.{decided, getElem?-bound, getElem?-front}
+use Rattle.model.proofs.Laws.{decided, get_elem?_bound, get_elem?_front}
 use Rattle.model.proofs.Selections.{split_at}
 use Rattle.model.proofs.Lists.{position}
 use Rattle.ordering.specs.Walks.{Along, Closed, Walk, stay, step}
@@ -60,7 +60,7 @@ module _ (groups : List ℕ) (edges : List Edge) (starts : Starts groups edges) 
   ends = subst (λ (k : ℕ). get_elem? (front.rest ++ g ∷ []) k ≡ some g) front.long (split_at front.rest g [])
 
   placed : {y : ℕ} (i : ℕ) → get_elem? (g ∷ front.rest) i ≡ some y → (i < suc n) × (get_elem? round i ≡ some y)
-  placed i p = (omega (arith, getElem?-bound (g ∷ front.rest) i p, front.long), getElem?-front (g ∷ front.rest) (g ∷ []) i p)
+  placed i p = (omega (arith, get_elem?_bound (g ∷ front.rest) i p, front.long), get_elem?_front (g ∷ front.rest) (g ∷ []) i p)
 
   -- Each of its groups closes a walk as long: on to the end, then round to it.
   turns_round : (y : ℕ) → y ∈ g ∷ front.rest → Walk edges (suc n) y y

@@ -18,7 +18,7 @@ use indexing::{find_ready, index_edges};
 use model::ITEMS;
 
 // How many groups are placed, the groups in their order, and for each group how many arrows from unplaced groups lead into it.
-#[derive(Drop)]
+#[derive(Clone, Copy)]
 pub struct Placed {
     pub count: usize,
     pub order: Groups,

@@ -15,7 +15,7 @@ pub enum ReadAnswer {
 }
 
 // What reading a program answers, and where its transitions start. Entries beyond the transitions are 0, all of them on a refusal.
-#[derive(Drop)]
+#[derive(Clone, Copy)]
 pub struct ProgramRead {
     pub answer: ReadAnswer,
     pub starts: Starts,

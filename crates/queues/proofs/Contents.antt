@@ -10,7 +10,7 @@ use borrow.Author.Tests.{ne_eqb}
 use Rattle.model.specs.Limits.{max_items, max_queues}
 use Rattle.model.specs.Machine.{put₂}
 use Rattle.model.specs.Replay.{is_empty}
-use Rattle.model.proofs.Laws.{decided, put₂-same, put₂-other}
+use Rattle.model.proofs.Laws.{decided, put₂_same, put₂_other}
 use Rattle.memory.specs.Tables.{Table, Row, Rank, Shaped, number_at, stored}
 use Rattle.memory.proofs.Stores.{same_place, other_place, shaped, number_same, number_other}
 use Rattle.entries.specs.declared.Request.{Request}
@@ -170,18 +170,18 @@ module _ {A B : Type 0} (bare : A → B) (read read' : ℕ → B) (part : Part) 
   says_put rank queue l es here k q r b =
       decided (eqb k rank && eqb q queue)
       (λ t. let (e, f) = same_place k rank q queue t in
-      rw (e, f, put₂-same model rank queue l, put₂-same entries rank (list_of queue part) es) here)
+      rw (e, f, put₂_same model rank queue l, put₂_same entries rank (list_of queue part) es) here)
       (λ t. let n = other_place k rank q queue t in
       rw (
-        put₂-other model rank queue l k q n,
-        put₂-other entries rank (list_of queue part) es k (list_of q part) (λ (e, f). n (e, list_queue part q queue f)),
+        put₂_other model rank queue l k q n,
+        put₂_other entries rank (list_of queue part) es k (list_of q part) (λ (e, f). n (e, list_queue part q queue f)),
       )
       (contents_same bare read read' (model k q) (entries k (list_of q part)) (says k q r b) (same k (list_of q part))))
 
   -- A list of the other part was exchanged.
   pub says_kept : (rank list : ℕ) (es : List ℕ) → ((q : ℕ) → list_of q part ≢ list) → Says bare read' part model (put₂ entries rank list es)
   says_kept rank list es apart k q r b =
-      rw (put₂-other entries rank list es k (list_of q part) (λ (_, f). apart q f))
+      rw (put₂_other entries rank list es k (list_of q part) (λ (_, f). apart q f))
       (contents_same bare read read' (model k q) (entries k (list_of q part)) (says k q r b) (same k (list_of q part)))
 
 -- A request with a fetched value is a delivery.

@@ -20,7 +20,7 @@ use Rattle.queues.specs.Queued.{bare_request, bare_delivery, sent, Queued}
 use Rattle.queues.proofs.Calls.{there_room}
 use Rattle.links.proofs.EntryLists.{all_append, all_but, all_middle, all_map, all_of}
 use Rattle.links.proofs.Changes.{linked_changed, unlinked_changed}
-use Rattle.links.proofs.Chained.{put₂-all, chained_fields, chained_linked, chained_unlinked, unlinked_free}
+use Rattle.links.proofs.Chained.{put₂_all, chained_fields, chained_linked, chained_unlinked, unlinked_free}
 use Rattle.queues.proofs.Contents.{Says, says_put, says_kept, contents_same, contents_more, request_same}
 use Rattle.queues.proofs.Contents.{delivery_same, request_shape, stored_other, request_read, delivery_made, parts_apart}
 
@@ -69,7 +69,7 @@ module _ {most : ℕ} {t : Queues} {requests : ℕ → ℕ → List (Asked Origi
         owner = put held.owner e (rank, list);
         chained = chained_linked chained₁ rank list room.rank_held (list_held Requests queue room.queue_held) e row free;
         issued =
-            put₂-all held.entries rank list (es ++ e ∷ []) (λ r m xs. All (λ x. x ≤ e) xs)
+            put₂_all held.entries rank list (es ++ e ∷ []) (λ r m xs. All (λ x. x ≤ e) xs)
             (all_append (λ x. x ≤ e) es (e ∷ []) (grown rank list) (omega arith, tt)) (λ r m n. grown r m);
         requested =
             says_put bare_request (request_at t.pool) (request_at t₂.pool) Requests requests held.entries held.requested same_requests
@@ -89,7 +89,7 @@ module _ {most : ℕ} {t : Queues} {requests : ℕ → ℕ → List (Asked Origi
       (split : held.entries rank (list_of queue part) ≡ xs ++ e ∷ ys) where
     issued_left : (k m : ℕ) → All (λ x. x ≤ most) (put₂ held.entries rank (list_of queue part) (xs ++ ys) k m)
     issued_left =
-        put₂-all held.entries rank (list_of queue part) (xs ++ ys) (λ k m es. All (λ x. x ≤ most) es)
+        put₂_all held.entries rank (list_of queue part) (xs ++ ys) (λ k m es. All (λ x. x ≤ most) es)
         (all_but (λ x. x ≤ most) xs e ys (subst (All (λ x. x ≤ most)) split (held.issued rank (list_of queue part))))
         (λ k m n. held.issued k m)
 
@@ -185,7 +185,7 @@ module _ {most : ℕ} {t : Queues} {requests : ℕ → ℕ → List (Asked Origi
         owner = put held.owner e (rank, to);
         chained = chained_linked chained₂ rank to r (list_held Deliveries queue q) e row free;
         issued =
-            put₂-all entries₂ rank to (entries₂ rank to ++ e ∷ []) (λ k m es. All (λ x. x ≤ most) es)
+            put₂_all entries₂ rank to (entries₂ rank to ++ e ∷ []) (λ k m es. All (λ x. x ≤ most) es)
             (all_append (λ x. x ≤ most) (entries₂ rank to) (e ∷ []) (issued_left rank queue r q Requests xs e ys split rank to)
             (issued_middle rank queue r q Requests xs e ys split, tt))
             (λ k m n. issued_left rank queue r q Requests xs e ys split k m);

@@ -25,7 +25,7 @@ use Rattle.model.specs.Replay.{Event, Replay, Taken, Replayed, joins_row, opened
 use Rattle.model.specs.Replay.{take_item, take_items, same_address, agrees_with, begin, replay}
 use Rattle.model.specs.HappensBefore.{At, rank_of}
 use Rattle.model.specs.Checks.{Accepted, accept}
-use Rattle.model.proofs.Laws.{Within, decided, and-true, bind_ok, ok_injective, put₂-holds}
+use Rattle.model.proofs.Laws.{Within, decided, and-true, bind_ok, ok_injective, put₂_holds}
 use Rattle.model.proofs.TakenItems.{replay_taken}
 use Rattle.model.proofs.Accepted.{accepted_parts}
 use Rattle.model.proofs.Bytes.{finds_anything, finds_bind, finds_judged, finds_times, finds_counted, finds_weaker, whole_finds}
@@ -86,7 +86,7 @@ module _ (P : Program) (s : Replay) (i : Item) (b : Bounded s) where
     requests_performed (assigns x v) = requests_later
     requests_performed passes = requests_later
     requests_performed (issues q remote source destination) =
-        put₂-holds (Each _) s.machine.requests i.rank q (each_snoc (requests_later i.rank q) own) requests_later
+        put₂_holds (Each _) s.machine.requests i.rank q (each_snoc (requests_later i.rank q) own) requests_later
     requests_performed meets = requests_later
 
     deliveries_performed : (a : Action) (rank queue : ℕ) →
@@ -120,9 +120,9 @@ module _ (P : Program) (s : Replay) (i : Item) (b : Bounded s) where
       record {
         bounded =
             record {
-              requests = put₂-holds (Each _) s.machine.requests i.rank i.queue others b.requests;
+              requests = put₂_holds (Each _) s.machine.requests i.rank i.queue others b.requests;
               deliveries =
-                  put₂-holds (Each _) s.machine.deliveries i.rank i.queue (each_snoc (b.deliveries i.rank i.queue) first) b.deliveries;
+                  put₂_holds (Each _) s.machine.deliveries i.rank i.queue (each_snoc (b.deliveries i.rank i.queue) first) b.deliveries;
               row = b.row;
             };
         group = first;
@@ -135,7 +135,7 @@ module _ (P : Program) (s : Replay) (i : Item) (b : Bounded s) where
         bounded =
             record {
               requests = b.requests;
-              deliveries = put₂-holds (Each _) s.machine.deliveries i.rank i.queue others b.deliveries;
+              deliveries = put₂_holds (Each _) s.machine.deliveries i.rank i.queue others b.deliveries;
               row = b.row;
             };
         group = first;

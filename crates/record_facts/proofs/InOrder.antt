@@ -12,7 +12,7 @@ use Rattle.model.specs.Programs.{Program, Transition}
 use Rattle.model.specs.Machine.{Start, Request, Delivery, initial, move_to, set_register, set_cell, set_requests, set_deliveries, Action, loads, stores, assigns, passes, issues, meets}
 use Rattle.model.specs.Replay.{Origin, Event, Replay, begin, perform, origin_of, after_command, after_fetch, after_delivery}
 use Rattle.model.specs.HappensBefore.{At}
-use Rattle.model.proofs.Laws.{put₂-holds}
+use Rattle.model.proofs.Laws.{put₂_holds}
 use Rattle.model.proofs.Selections.{split_at}
 use Rattle.model.proofs.Replay.{FetchTaken, DeliveryTaken, taken_oldest}
 use Rattle.record_facts.specs.Facts.{Local}
@@ -54,7 +54,7 @@ module _ (events : List Event) where
     command_order i t (issues q remote source destination) c new =
         record {
           requests =
-              put₂-holds (Rises request_number (suc n)) s.machine.requests i.rank q
+              put₂_holds (Rises request_number (suc n)) s.machine.requests i.rank q
               (rises_last request_number (new c.fits.0) (ordered.requests i.rank q)) still_requests;
           deliveries = still_deliveries;
         }
@@ -67,10 +67,10 @@ module _ (events : List Event) where
     fetch_order i a rest c new =
         record {
           requests =
-              put₂-holds (Rises request_number (suc n)) s.machine.requests i.rank i.queue
+              put₂_holds (Rises request_number (suc n)) s.machine.requests i.rank i.queue
               (rises_out request_number (oldest_out (taken_oldest c)) (still_requests i.rank i.queue)) still_requests;
           deliveries =
-              put₂-holds (Rises delivery_number (suc n)) s.machine.deliveries i.rank i.queue
+              put₂_holds (Rises delivery_number (suc n)) s.machine.deliveries i.rank i.queue
               (rises_last delivery_number new (ordered.deliveries i.rank i.queue)) still_deliveries;
         }
 
@@ -82,7 +82,7 @@ module _ (events : List Event) where
         record {
           requests = still_requests;
           deliveries =
-              put₂-holds (Rises delivery_number (suc n)) s.machine.deliveries i.rank i.queue
+              put₂_holds (Rises delivery_number (suc n)) s.machine.deliveries i.rank i.queue
               (rises_out delivery_number (oldest_out (taken_oldest c)) (still_deliveries i.rank i.queue)) still_deliveries;
         }
 

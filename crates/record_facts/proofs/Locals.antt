@@ -14,7 +14,7 @@ use Rattle.model.specs.Machine.{State, Request, Delivery, move_to, set_cell, set
 use Rattle.model.specs.Replay.{Origin, Event, Replay, access_of, perform, origin_of, after_fetch, after_delivery}
 use Rattle.model.specs.HappensBefore.{is_command, rank_of}
 use Rattle.model.specs.Traces.{command_of}
-use Rattle.model.proofs.Laws.{and-true, put_same, put_other, put₂-row, put₂-other-row}
+use Rattle.model.proofs.Laws.{and-true, put_same, put_other, put₂_row, put₂_other_row}
 use Rattle.record_facts.specs.Facts.{Local, registers_after, CommandStep}
 use Rattle.record_facts.proofs.Moves.{Move, commands, fetches, delivers}
 
@@ -27,9 +27,9 @@ local_of s rank = record { control = s.machine.control rank; registers = s.machi
 module _ (own : ℕ) (origin : Origin) where
   pub registers_kept : (a : Action) (s : State Origin) (rank : ℕ) → ¬ (rank ≡ own) → (perform own origin a s).registers rank ≡ s.registers rank
   unfolding perform
-  registers_kept (loads x c) s rank other = put₂-other-row s.registers own x (s.cells own c) rank other
+  registers_kept (loads x c) s rank other = put₂_other_row s.registers own x (s.cells own c) rank other
   registers_kept (stores c v) s rank other = refl
-  registers_kept (assigns x v) s rank other = put₂-other-row s.registers own x v rank other
+  registers_kept (assigns x v) s rank other = put₂_other_row s.registers own x v rank other
   registers_kept passes s rank other = refl
   registers_kept (issues q remote source destination) s rank other = refl
   registers_kept meets s rank other = refl
@@ -47,9 +47,9 @@ module _ (own : ℕ) (origin : Origin) where
       (value : ℕ) × (access_of own a s.cells ≡ access_of own a (λ rank cell. value)) ×
       ((perform own origin a s).registers own ≡ registers_after a value (s.registers own))
   unfolding perform access_of registers_after
-  registers_moved (loads x c) s = (s.cells own c, refl, put₂-row s.registers own x (s.cells own c))
+  registers_moved (loads x c) s = (s.cells own c, refl, put₂_row s.registers own x (s.cells own c))
   registers_moved (stores c v) s = (0, refl, refl)
-  registers_moved (assigns x v) s = (0, refl, put₂-row s.registers own x v)
+  registers_moved (assigns x v) s = (0, refl, put₂_row s.registers own x v)
   registers_moved passes s = (0, refl, refl)
   registers_moved (issues q remote source destination) s = (0, refl, refl)
   registers_moved meets s = (0, refl, refl)

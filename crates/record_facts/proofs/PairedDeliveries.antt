@@ -15,7 +15,7 @@ use Rattle.model.specs.Programs.{Program}
 use Rattle.model.specs.Machine.{Start}
 use Rattle.model.specs.Replay.{Event, Replay, delivery_for}
 use Rattle.model.specs.HappensBefore.{At, rank_of}
-use Rattle.model.proofs.Laws.{getElem?-take}
+use Rattle.model.proofs.Laws.{get_elem?_take}
 use Rattle.model.proofs.ItemKinds.{fetch≢delivery}
 use Rattle.model.proofs.Replay.{for_rank, rank_for}
 use Rattle.record_facts.specs.Facts.{Local}
@@ -118,7 +118,7 @@ module _ {P : Program} {start : Start} {local : ℕ → ℕ → Local} {items : 
       Sending P local a.group (standing a.group (take j events) (before_delivery j at popb).before) a
   sending_there j at popb k {a} aa popa t =
       let before = before_delivery j at popb in
-      let known = group_bound before.run k a (getElem?-take events j k t.before aa) in
+      let known = group_bound before.run k a (get_elem?_take events j k t.before aa) in
       let (m, inside) = in_group_lem events j k a.group t.before aa refl in
       sending ((groups before.run).settled a.group known (inl (delivery j at popb).row)) m inside popa
       (λ l y ay kind.

@@ -19,7 +19,7 @@ use Rattle.model.specs.Machine.{Start, Request, Delivery}
 use Rattle.model.specs.Replay.{Origin, Event, Replay, request_for, delivery_for}
 use Rattle.model.specs.HappensBefore.{At, rank_of}
 use Rattle.model.specs.Checks.{in_group, group_events}
-use Rattle.model.proofs.Laws.{decided, and-true, true_and, getElem?-take, getElem?-taken}
+use Rattle.model.proofs.Laws.{decided, and-true, true_and, get_elem?_take, get_elem?_taken}
 use Rattle.model.proofs.Selections.{Selected, select_at, select_from}
 use Rattle.model.proofs.ItemKinds.{same_kind_true, transfer_command, transfer_no_bar, command≢fetch, command≢delivery, fetch≢delivery}
 use Rattle.model.proofs.Replay.{Oldest, taken_oldest}
@@ -98,7 +98,7 @@ module _ (events : List Event) (j : ℕ) where
   pub in_group_lem : (k : ℕ) {y : Event} (g : ℕ) → k < j → At events k y → y.group ≡ g → (m : ℕ) × At (group_events g (take j events)) m y
   in_group_lem k {y} g less at own = (
     length (select (in_group g) (take k (take j events))),
-    select_at (in_group g) (take j events) k (getElem?-take events j k less at) (eq-eqb y.group g own),
+    select_at (in_group g) (take j events) k (get_elem?_take events j k less at) (eq-eqb y.group g own),
   )
 
   pub record Numbered (g : ℕ) (y : Event) : Type 0 where
@@ -110,7 +110,7 @@ module _ (events : List Event) (j : ℕ) where
   pub from_group : (g m : ℕ) {y : Event} → At (group_events g (take j events)) m y → Numbered g y
   from_group g m {y} at =
       let found : Selected (in_group g) (take j events) m y = select_from (in_group g) (take j events) m at in
-      let (there, before) = getElem?-taken events j found.i found.at in
+      let (there, before) = get_elem?_taken events j found.i found.at in
       record { number = found.i; at = there; before = before; own = eqb-true y.group g found.passes }
 
 -- The number of the one event of a group whose kind passes a test.

@@ -11,7 +11,7 @@ use Rattle.model.specs.Choice.{select, Each, one}
 use Rattle.model.specs.Machine.{put₂}
 use Rattle.model.proofs.Selections.{select_own, select_other}
 use Rattle.model.proofs.Replay.{Oldest}
-use Rattle.model.proofs.Laws.{decided, and-true, put₂-map}
+use Rattle.model.proofs.Laws.{decided, and-true, put₂_map}
 
 pub cons≢nil : {A : Type 0} {a : A} {l : List A} → ¬ (a ∷ l ≡ [])
 cons≢nil h = let z : ◌≡◌ {A = ℕ} 0 1 = cc in omega arith
@@ -44,17 +44,17 @@ out_only first h = (cc, cc)
 out_only (later o) h = absurd (out_nothing o (cc))
 
 -- A value put where it stood already.
-pub put₂-idle : {A : Type 0} (f : ℕ → ℕ → A) (i j : ℕ) (v : A) → v ≡ f i j → put₂ f i j v ≡ f
+pub put₂_idle : {A : Type 0} (f : ℕ → ℕ → A) (i j : ℕ) (v : A) → v ≡ f i j → put₂ f i j v ≡ f
 unfolding put₂
-put₂-idle f i j v h = fun_ext λ k. fun_ext λ l. decided (eqb k i && eqb l j) (λ yes'. there k l yes') (λ no'. rw no')
+put₂_idle f i j v h = fun_ext λ k. fun_ext λ l. decided (eqb k i && eqb l j) (λ yes'. there k l yes') (λ no'. rw no')
   where
     there : (k l : ℕ) → (eqb k i && eqb l j) ≡ true → put₂ f i j v k l ≡ f k l
     there k l here = let (p, q) = and-true (eqb k i) (eqb l j) here in rw (here, h, eqb-true k i p, eqb-true l j q)
 
 -- The second of two values put at one place counts.
-pub put₂-again : {A : Type 0} (f : ℕ → ℕ → A) (i j : ℕ) (v w : A) → put₂ (put₂ f i j v) i j w ≡ put₂ f i j w
+pub put₂_again : {A : Type 0} (f : ℕ → ℕ → A) (i j : ℕ) (v w : A) → put₂ (put₂ f i j v) i j w ≡ put₂ f i j w
 unfolding put₂
-put₂-again f i j v w = fun_ext λ k. fun_ext λ l. decided (eqb k i && eqb l j) (λ yes'. rw yes') (λ no'. rw no')
+put₂_again f i j v w = fun_ext λ k. fun_ext λ l. decided (eqb k i && eqb l j) (λ yes'. rw yes') (λ no'. rw no')
 
 -- Entries of which each has a group.
 module _ {A : Type 0} (group : A → ℕ) where
@@ -86,21 +86,21 @@ module _ {A : Type 0} (group : A → ℕ) where
       of_group g (put₂ queues rank queue (queues rank queue ++ x ∷ [])) ≡
       put₂ (of_group g queues) rank queue (of_group g queues rank queue ++ x ∷ [])
   append_own queues rank queue x g own =
-      put₂-map (entries_of g) queues rank queue _ ∙
+      put₂_map (entries_of g) queues rank queue _ ∙
       ap (put₂ (of_group g queues) rank queue) (select_own (of_own g) (queues rank queue) x (eq-eqb (group x) g own))
 
   pub append_other : (queues : ℕ → ℕ → List A) (rank queue : ℕ) (x : A) (g : ℕ) → ¬ (group x ≡ g) →
       of_group g (put₂ queues rank queue (queues rank queue ++ x ∷ [])) ≡ of_group g queues
   append_other queues rank queue x g other =
-      put₂-map (entries_of g) queues rank queue _ ∙
-      put₂-idle (of_group g queues) rank queue _ (select_other (of_own g) (queues rank queue) x (ne_eqb (group x) g other))
+      put₂_map (entries_of g) queues rank queue _ ∙
+      put₂_idle (of_group g queues) rank queue _ (select_other (of_own g) (queues rank queue) x (ne_eqb (group x) g other))
 
   -- What an entry taken out leaves, seen by its own group and by another.
   pub take_own : (queues : ℕ → ℕ → List A) (rank queue : ℕ) (rest : List A) (g : ℕ) →
       of_group g (put₂ queues rank queue rest) ≡ put₂ (of_group g queues) rank queue (entries_of g rest)
-  take_own queues rank queue rest g = put₂-map (entries_of g) queues rank queue rest
+  take_own queues rank queue rest g = put₂_map (entries_of g) queues rank queue rest
 
   pub take_other : (queues : ℕ → ℕ → List A) (rank queue : ℕ) {a : A} {rest : List A} (g : ℕ) → Out a (queues rank queue) rest → ¬ (group a ≡ g) →
       of_group g (put₂ queues rank queue rest) ≡ of_group g queues
   take_other queues rank queue {rest = rest} g o other =
-      put₂-map (entries_of g) queues rank queue rest ∙ put₂-idle (of_group g queues) rank queue _ (out_other g o other)
+      put₂_map (entries_of g) queues rank queue rest ∙ put₂_idle (of_group g queues) rank queue _ (out_other g o other)

@@ -15,7 +15,7 @@ use Rattle.model.specs.Programs.{Program}
 use Rattle.model.specs.Machine.{Start, issues, action}
 use Rattle.model.specs.Replay.{Event, Replay, Replayed, begin, take_items}
 use Rattle.model.specs.HappensBefore.{At, rank_of}
-use Rattle.model.proofs.Laws.{ok_injective, getElem?-map, getElem?-mapped, take_map}
+use Rattle.model.proofs.Laws.{ok_injective, get_elem?_map, get_elem?_mapped, take_map}
 use Rattle.model.proofs.ItemKinds.{transfer_command}
 use Rattle.record_facts.specs.Facts.{Local}
 use Rattle.record_facts.specs.Transfers.{PopAt, AppendsRequest}
@@ -32,10 +32,10 @@ pub record SameRequest (e : Event) (rank queue remote remote' : ℕ) : Type 0 wh
 -- An item's event, an event's item, and a pop's.
 module _ {items : List Item} (events : List Event) (items_of : map (λ e. e.item) events ≡ items) where
   pub event_at : (j : ℕ) {i : Item} → get_elem? items j ≡ some i → (x : Event) × At events j x × (x.item ≡ i)
-  event_at j h = getElem?-mapped (λ (e : Event). e.item) events j (rw (sym items_of) at h)
+  event_at j h = get_elem?_mapped (λ (e : Event). e.item) events j (rw (sym items_of) at h)
 
   pub item_at : (j : ℕ) {x : Event} → At events j x → get_elem? items j ≡ some x.item
-  item_at j at = rw (sym items_of) (getElem?-map (λ (e : Event). e.item) events j at)
+  item_at j at = rw (sym items_of) (get_elem?_map (λ (e : Event). e.item) events j at)
 
   pub pop_at : (j : ℕ) {kind : Kind} {x : Event} → At events j x → x.item.kind ≡ kind → PopAt items kind j x.item
   pop_at j at kind = record { at = item_at j at; kind_is = kind }

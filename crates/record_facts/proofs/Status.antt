@@ -20,9 +20,9 @@ use Rattle.model.specs.Machine.{Request, Delivery, read_of, write_of, put₂, is
 use Rattle.model.specs.Replay.{Origin, Event, Replay, is_for}
 use Rattle.model.specs.HappensBefore.{is_command, rank_of}
 use Rattle.model.specs.Checks.{group_events}
-use Rattle.model.proofs.Laws.{decided, and-true, put₂-same}
+use Rattle.model.proofs.Laws.{decided, and-true, put₂_same}
 use Rattle.record_facts.specs.Facts.{Local, PopOf, TransferOf, Shape, single, transfer, row}
-use Rattle.record_facts.proofs.Queues.{cons≢nil, Out, out_nothing, out_only, of_group, put₂-again, put₂-idle}
+use Rattle.record_facts.proofs.Queues.{cons≢nil, Out, out_nothing, out_only, of_group, put₂_again, put₂_idle}
 
 -- What a group has: its events, and its entries in each queue of each rank.
 pub record Standing : Type 0 where
@@ -169,11 +169,11 @@ pop_of kind pops k l place =
 
 -- Taken out, the one entry leaves its queue empty too.
 only_gone : {A : Type 0} (rank queue : ℕ) (x : A) → put₂ (only rank queue x) rank queue [] ≡ nothing
-only_gone rank queue x = put₂-again nothing rank queue (x ∷ []) [] ∙ put₂-idle nothing rank queue [] refl
+only_gone rank queue x = put₂_again nothing rank queue (x ∷ []) [] ∙ put₂_idle nothing rank queue [] refl
 
 -- A queue with the one entry is not empty.
 waiting : {A : Type 0} (rank queue : ℕ) (x : A) → ¬ (only rank queue x rank queue ≡ [])
-waiting rank queue x empty = cons≢nil (sym (put₂-same nothing rank queue (x ∷ [])) ∙ empty)
+waiting rank queue x empty = cons≢nil (sym (put₂_same nothing rank queue (x ∷ [])) ∙ empty)
 
 module _ {P : Program} {local : ℕ → ℕ → Local} {g : ℕ} where
   -- A fetch takes an issued transfer one stage on.

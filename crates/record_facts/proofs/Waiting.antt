@@ -15,7 +15,7 @@ use Rattle.model.specs.Programs.{Program}
 use Rattle.model.specs.Machine.{Request, Delivery}
 use Rattle.model.specs.Replay.{Origin, Event}
 use Rattle.model.specs.HappensBefore.{At, rank_of}
-use Rattle.model.proofs.Laws.{put₂-same, each_at}
+use Rattle.model.proofs.Laws.{put₂_same, each_at}
 use Rattle.model.proofs.Lists.{here}
 use Rattle.model.proofs.Selections.{select_within}
 use Rattle.record_facts.specs.Facts.{Local, PopOf}
@@ -111,7 +111,7 @@ asking (alone x command plain bar) m at transfer none =
 asking (closed bars each ranks) m at transfer none = absurd (true≢false (sym transfer ∙ ap is_transfer (each_at bars each m at)))
 asking {P} {local} {g} {was} (issued x remote source destination issue) m at transfer none =
     subst (Asking P local g was) (in_one m at)
-    (record { remote = remote; source = source; destination = destination; issue = issue; waits = put₂-same nothing (rank_of x) x.queue _ })
+    (record { remote = remote; source = source; destination = destination; issue = issue; waits = put₂_same nothing (rank_of x) x.queue _ })
 asking (fetched x a remote source destination value issue popa names reads) m at transfer none = absurd (none 1 a refl popa.kind_is)
 asking (delivered x a b whole) m at transfer none = absurd (none 1 a refl whole.fetch_of_lem.kind_is)
 
@@ -150,7 +150,7 @@ sending {P} {local} {g} {was} (fetched x y remote source destination value issue
       issue = issue;
       fetch = fetch;
       events = refl;
-      waits = put₂-same nothing (rank_of x) x.queue _;
+      waits = put₂_same nothing (rank_of x) x.queue _;
     }))
     (in_two m at)
 sending (delivered x y b whole) m at popa none = absurd (none 2 b refl whole.delivery_of_lem.kind_is)

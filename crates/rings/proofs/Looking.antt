@@ -207,9 +207,9 @@ module _ {groups most : ℕ} {table : Table} {heads links tails onward : List �
               ⊎_elim
               (λ e. subst (λ (c : Closing). Walk E c.arrows c.group c.group) (sym e)
               ((b.settled E i).walk (λ z. n (ap (λ (c : Closing). c.arrows) e ∙ z))))
-              (λ e. let found-Some : ¬ (found.arrows ≡ 0) = λ z. n (ap (λ (c : Closing). c.arrows) e ∙ z) in
+              (λ e. let found_some : ¬ (found.arrows ≡ 0) = λ z. n (ap (λ (c : Closing). c.arrows) e ∙ z) in
               subst (λ (c : Closing). Walk E c.arrows c.group c.group) (sym e)
-              (walk_more (λ d m. (among_within cursors E m).0) (passes_walk (turned ((s.told E i.lists (b.settled E i).onwards).way found-Some)))))
+              (walk_more (λ d m. (among_within cursors E m).0) (passes_walk (turned ((s.told E i.lists (b.settled E i).onwards).way found_some)))))
               better.one
 
           settled_out : (E : List Edge) (i : Indexed groups E table heads links tails onward) → Settled E table onward cursors' groups most (left - 1) best'

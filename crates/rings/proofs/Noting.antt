@@ -46,31 +46,31 @@ module _ (groups : ℕ) (waiting : List ℕ) (table : Table) where
   pub counting : (e : Edge) → counts groups waiting e ≡ true → (among groups e ≡ true) × (waits waiting e.from ≡ true) × (e.from < groups) × (e.to < groups)
   unfolding counts
   counting e h =
-      let (inside, Waits-there) = and-true (among groups e) (waits waiting e.from) h in
+      let (inside, waits_there) = and-true (among groups e) (waits waiting e.from) h in
       let (low, high) = and-true (ltb e.from groups) (ltb e.to groups) inside in
-      (inside, Waits-there, ltb-true e.from groups low, ltb-true e.to groups high)
+      (inside, waits_there, ltb-true e.from groups low, ltb-true e.to groups high)
 
   -- The arrows that count, by their numbers.
   pub counted_in : (limit k : ℕ) {x h : ℕ} → k < limit → counts groups waiting (edge_at table k) ≡ true → x ≡ source_at table k → h ≡ target_at table k →
       x ⟶ h ∈ counted groups waiting (map (edge_at table) (numbers_from 0 limit))
   counted_in limit k {x} {h} b c from to =
-      let (inside, Waits-there, low, high) = counting (edge_at table k) c in
+      let (inside, waits_there, low, high) = counting (edge_at table k) c in
       let own : ◌≡◌ {A = Edge} (x ⟶ h) (edge_at table k) = rw (from, to) in
       subst (λ (d : Edge). d ∈ counted groups waiting (map (edge_at table) (numbers_from 0 limit))) (sym own)
       (select_keeps (λ d. waits waiting d.from) _
       (select_keeps (among groups) _
-      (in_map (edge_at table) (numbers_from 0 limit) (in_numbers_from 0 limit k (omega arith) (omega (arith, b)))) inside) Waits-there)
+      (in_map (edge_at table) (numbers_from 0 limit) (in_numbers_from 0 limit k (omega arith) (omega (arith, b)))) inside) waits_there)
 
   pub in_counted : (limit : ℕ) {x h : ℕ} → x ⟶ h ∈ counted groups waiting (map (edge_at table) (numbers_from 0 limit)) →
       (k : ℕ) × (k < limit) × (counts groups waiting (edge_at table k) ≡ true) × (x ≡ source_at table k) × (h ≡ target_at table k)
   unfolding counts
   in_counted limit {x} {h} m =
-      let (inside, Waits-there) = select_within (λ d. waits waiting d.from) _ m in
+      let (inside, waits_there) = select_within (λ d. waits waiting d.from) _ m in
       let (whole, between) = select_within (among groups) _ inside in
       let (k, i, same) = map_in (edge_at table) (numbers_from 0 limit) whole in (
         k,
         omega (arith, (numbers_from_bounds 0 limit k i).1),
-        ap (counts groups waiting) (sym same) ∙ true_and (among groups (x ⟶ h)) (waits waiting x) between Waits-there,
+        ap (counts groups waiting) (sym same) ∙ true_and (among groups (x ⟶ h)) (waits waiting x) between waits_there,
         ap (λ (d : Edge). d.from) same,
         ap (λ (d : Edge). d.to) same,
       )
@@ -104,7 +104,7 @@ module _ (groups : ℕ) (waiting : List ℕ) (table : Table) where
           (k : ℕ) × (k < limit) × (counts groups waiting (edge_at table k) ≡ true) × (x ≡ source_at table k) × (h ≡ target_at table k) × (x < groups) × (h < groups)
       found m =
           let (k, b, c, from, to) = in_counted limit m in
-          let (inside, Waits-there, low, high) = counting (edge_at table k) c in
+          let (inside, waits_there, low, high) = counting (edge_at table k) c in
           (k, b, c, from, to, omega (arith, from, low), omega (arith, to, high))
 
       by_source : (x h : ℕ) → x ⟶ h ∈ counted groups waiting (map (edge_at table) (numbers_from 0 limit)) →
@@ -152,7 +152,7 @@ module _ (groups : ℕ) (waiting : List ℕ) (table : Table) where
       pub noting_yes : r ≡ true → {heads' links' tails' onward' : List ℕ} → Pushed heads links heads' links' to (place + 1) →
           Pushed tails onward tails' onward' from (place + 1) → Noting groups waiting table heads' links' tails' onward' last (place + 1)
       noting_yes h p q =
-          let (inside, Waits-there, low, high) = counting groups waiting table (edge_at table place) (read ∙ h) in
+          let (inside, waits_there, low, high) = counting groups waiting table (edge_at table place) (read ∙ h) in
           let room : place < max_edges = omega (arith, more, n.few) in
           record {
             fits = n.fits;

@@ -21,7 +21,7 @@ use graph::{EDGES, Edges, Groups, groups_in};
 use model::ITEMS;
 
 // How many groups form the ring, and the groups along the arrows.
-#[derive(Drop)]
+#[derive(Clone, Copy)]
 pub struct Found {
     pub count: usize,
     pub ring: Groups,

@@ -10,7 +10,7 @@ use Rattle.model.specs.Machine.{Access, Start, put₂}
 use Rattle.model.specs.Replay.{Event, same_address}
 use Rattle.model.proofs.Selections.{select_yes, select_no}
 use Rattle.model.proofs.Replay.{true_same_address}
-use Rattle.model.proofs.Laws.{decided, put₂-other, true_and}
+use Rattle.model.proofs.Laws.{decided, put₂_other, true_and}
 use Rattle.record_facts.specs.Facts.{written, cells_after}
 
 -- An access writes the cell at this address.
@@ -26,7 +26,7 @@ written_elsewhere cells none a h = refl
 written_elsewhere cells (some b) a h =
     decided b.writes
     (λ w. rw (w, when)
-    (put₂-other cells b.address.rank b.address.cell b.value a.rank a.cell
+    (put₂_other cells b.address.rank b.address.cell b.value a.rank a.cell
     (λ same. true≢false (sym (true_and (same_address a b.address) b.writes (true_same_address a b.address
     (λ i. record { rank = same.0 i; cell = same.1 i })) w) ∙ h))))
     (λ w. rw (w, when))

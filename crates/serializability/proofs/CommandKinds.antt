@@ -20,7 +20,7 @@ use Rattle.model.specs.Lists.{◌∈◌}
 use Rattle.model.proofs.Lists.{at_position}
 use Rattle.model.proofs.Selections.{select_yes, select_no, select_at, select_take}
 use Rattle.model.proofs.ItemKinds.{same_kind_true, command_part}
-use Rattle.model.proofs.Laws.{decided, and-true, true_and, getElem?-map, getElem?-taken, take_map}
+use Rattle.model.proofs.Laws.{decided, and-true, true_and, get_elem?_map, get_elem?_taken, take_map}
 use Rattle.record_facts.specs.Facts.{Facts, bars_of, count_of, bar_of}
 use Rattle.serializability.proofs.Projections.{command_of_true}
 use Rattle.serializability.proofs.Groups.{kind_command}
@@ -92,7 +92,7 @@ module _ {P : Program} {start : Start} {items : List Item} {run : Replayed} (f :
       bars_of (rank_of e) (take i run.events) ≡
       length (select (bar_transition P) (take e.place (transitions_of (rank_of e) run.events)))
   bars_before i e at c =
-      bars_selected P (rank_of e) (take i run.events) (λ j x ax. bar_transition_lem f j x (getElem?-taken run.events i j ax).0) ∙
+      bars_selected P (rank_of e) (take i run.events) (λ j x ax. bar_transition_lem f j x (get_elem?_taken run.events i j ax).0) ∙
       ap (λ l. length (select (bar_transition P) l))
       (transitions_take (rank_of e) run.events i ∙ ap (λ n. take n (transitions_of (rank_of e) run.events)) (sym (f.place_of i e at c)))
 
@@ -101,7 +101,7 @@ module _ {P : Program} {start : Start} {items : List Item} {run : Replayed} (f :
       get_elem? (transitions_of (rank_of e) run.events) e.place ≡ some e.item.transition
   transition_at i e at c =
       ap (get_elem? (transitions_of (rank_of e) run.events)) (f.place_of i e at c) ∙
-      getElem?-map (λ x. x.item.transition) (select (command_of (rank_of e)) run.events) _
+      get_elem?_map (λ x. x.item.transition) (select (command_of (rank_of e)) run.events) _
       (select_at (command_of (rank_of e)) run.events i at (command_of_true e c))
 
 -- An event of one run, and the event of the same identity in another.

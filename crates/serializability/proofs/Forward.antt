@@ -22,7 +22,7 @@ use Rattle.model.specs.Traces.{transitions_of, Identified, cell_of, value_at, Sa
 use Rattle.model.specs.Checks.{order_items, arranged}
 use Rattle.model.specs.Lists.{Precedes, ◌∈◌}
 use Rattle.model.proofs.Lists.{position, at_position}
-use Rattle.model.proofs.Laws.{getElem?-map, each_at}
+use Rattle.model.proofs.Laws.{get_elem?_map, each_at}
 use Rattle.record_facts.specs.Facts.{Facts, count_of, cells_after}
 use Rattle.serializability.specs.Orders.{Forward}
 use Rattle.serializability.specs.Claim.{Serialization}
@@ -118,7 +118,7 @@ module _ {P : Program} {start : Start} {items : List Item} {run : Replayed} (f :
   all_in_record each [] member = all
   all_in_record each (e ∷ events) member =
       let m = member 0 e refl in
-      one (each_at items each m.0 (rw f.items_of at (getElem?-map (λ x. x.item) run.events m.0 m.1)))
+      one (each_at items each m.0 (rw f.items_of at (get_elem?_map (λ x. x.item) run.events m.0 m.1)))
       (all_in_record each events (λ i. member (suc i)))
 
   pub is_serial : Each (InRecord P.header) items → SerialRun P start (order_items groups run.events) serial_run

@@ -15,7 +15,7 @@ use Rattle.model.specs.ItemKinds.{is_transfer, is_command_kind}
 use Rattle.model.specs.Programs.{Program}
 use Rattle.model.specs.Replay.{Event}
 use Rattle.model.specs.HappensBefore.{At, is_command, rank_of}
-use Rattle.model.proofs.Laws.{getElem?-map, each_at}
+use Rattle.model.proofs.Laws.{get_elem?_map, each_at}
 use Rattle.model.proofs.ItemKinds.{transfer_command}
 use Rattle.record_facts.specs.Facts.{Shape, single, transfer, row, PopOf, TransferOf, Local}
 
@@ -115,6 +115,6 @@ module _ {P : Program} {local : ℕ → ℕ → Local} where
   shape_together (single e c t b) k (suc m) hx hy before = absurd (none-ne-some _ hy)
   shape_together (transfer e a b whole) k m hx hy before = three_together e a b whole k m hx hy before
   shape_together (row bars kinds ranks) k m {x} {y} hx hy before =
-      let rank_x : rank_of x ≡ 1 + k = at_numbers 1 P.header.ranks k (rw ranks at (getElem?-map rank_of bars k hx)) in
-      let rank_y : rank_of y ≡ 1 + m = at_numbers 1 P.header.ranks m (rw ranks at (getElem?-map rank_of bars m hy)) in
+      let rank_x : rank_of x ≡ 1 + k = at_numbers 1 P.header.ranks k (rw ranks at (get_elem?_map rank_of bars k hx)) in
+      let rank_y : rank_of y ≡ 1 + m = at_numbers 1 P.header.ranks m (rw ranks at (get_elem?_map rank_of bars m hy)) in
       met (each_at bars kinds k hx) (each_at bars kinds m hy) (omega (arith, rank_x, rank_y, before))

@@ -31,9 +31,9 @@ value_read rank (issues q remote source destination) cells = 0
 value_read rank meets cells = 0
 
 -- A register of one rank changed: that rank's registers with it changed.
-put₂-put : {A : Type 0} (f : ℕ → ℕ → A) (rank index : ℕ) (v : A) → put₂ f rank index v ≡ put f rank (put (f rank) index v)
+put₂_put : {A : Type 0} (f : ℕ → ℕ → A) (rank index : ℕ) (v : A) → put₂ f rank index v ≡ put f rank (put (f rank) index v)
 unfolding put put₂
-put₂-put f rank index v =
+put₂_put f rank index v =
     fun_ext
     (λ r. fun_ext
     (λ x. decided (eqb r rank)
@@ -69,7 +69,7 @@ unfolding perform set_register set_cell set_requests registers_after value_read 
 performed rank origin (loads x a) s =
     record {
       control = refl;
-      registers = put₂-put s.registers rank x (s.cells rank a);
+      registers = put₂_put s.registers rank x (s.cells rank a);
       cells = refl;
       requests = refl;
       deliveries = refl;
@@ -77,7 +77,7 @@ performed rank origin (loads x a) s =
 performed rank origin (stores a v) s =
     record { control = refl; registers = put_own s.registers rank; cells = refl; requests = refl; deliveries = refl }
 performed rank origin (assigns x v) s =
-    record { control = refl; registers = put₂-put s.registers rank x v; cells = refl; requests = refl; deliveries = refl }
+    record { control = refl; registers = put₂_put s.registers rank x v; cells = refl; requests = refl; deliveries = refl }
 performed rank origin passes s =
     record { control = refl; registers = put_own s.registers rank; cells = refl; requests = refl; deliveries = refl }
 performed rank origin (issues q remote source destination) s =

@@ -12,7 +12,7 @@ use Rattle.model.specs.Machine.{Request, Delivery, Start, read_of, write_of, cel
 use Rattle.model.specs.Replay.{Event, Origin, Replay, agrees_with, is_for, request_for, delivery_for, after_fetch, after_delivery}
 use Rattle.model.specs.HappensBefore.{is_command, rank_of}
 use Rattle.model.proofs.Replay.{fetches, delivers, oldest_only}
-use Rattle.model.proofs.Laws.{decided, put₂-same}
+use Rattle.model.proofs.Laws.{decided, put₂_same}
 use Rattle.record_facts.specs.Facts.{Local, PopOf, written, cells_after}
 use Rattle.serializability.proofs.Groups.{kind_command}
 use Rattle.serializability.proofs.Alike.{TakenAs, taken_to, taken_as}
@@ -26,7 +26,7 @@ only rank queue entry = put₂ (λ r q. []) rank queue (entry ∷ [])
 -- It is found there, under whatever names of the rank and the queue, and once it is taken there is none.
 only_found : {A : Type 0} {rank queue r q : ℕ} (entry : A) → r ≡ rank → q ≡ queue → only rank queue entry r q ≡ entry ∷ []
 only_found {rank = rank} {queue} {r} {q} entry same_rank same_queue =
-    ap₂ (only rank queue entry) same_rank same_queue ∙ put₂-same (λ k l. []) rank queue (entry ∷ [])
+    ap₂ (only rank queue entry) same_rank same_queue ∙ put₂_same (λ k l. []) rank queue (entry ∷ [])
 
 only_taken : {A : Type 0} {rank queue r q : ℕ} (entry : A) → r ≡ rank → q ≡ queue →
     ◌≡◌ {A = ℕ → ℕ → List A} (put₂ (only rank queue entry) r q []) (λ k l. [])

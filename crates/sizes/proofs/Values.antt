@@ -16,7 +16,7 @@ use Rattle.model.specs.Machine.{State, Delivery, Action, loads, stores, assigns,
 use Rattle.model.specs.Machine.{Start, initial, move_to, set_register, set_cell, set_requests, set_deliveries}
 use Rattle.model.specs.Replay.{Origin, Replay, Taken, Replayed, perform, take_item, take_items, begin, quiet, at_end, replay}
 use Rattle.model.specs.Checks.{Accepted, accept}
-use Rattle.model.proofs.Laws.{bind_ok, required, ok_injective, put₂-holds, each_at}
+use Rattle.model.proofs.Laws.{bind_ok, required, ok_injective, put₂_holds, each_at}
 use Rattle.model.proofs.Ranges.{Ranged, header_fits}
 use Rattle.model.proofs.Actions.{Asks, loading, storing, assigning, passing, reading, writing, meeting, action_asks}
 use Rattle.model.proofs.Replay.{ItemTaken, commands, fetches, delivers, item_taken, taken_oldest}
@@ -53,19 +53,19 @@ module _ (rank : ℕ) (origin : Origin) (s : State Origin) (small : Small s) whe
   unfolding perform set_register set_cell set_requests
   performed (loads x a) fits =
       record {
-        registers = put₂-holds Fits s.registers rank x (small.cells rank a) small.registers;
+        registers = put₂_holds Fits s.registers rank x (small.cells rank a) small.registers;
         cells = small.cells;
         deliveries = small.deliveries;
       }
   performed (stores a v) fits =
       record {
         registers = small.registers;
-        cells = put₂-holds Fits s.cells rank a fits small.cells;
+        cells = put₂_holds Fits s.cells rank a fits small.cells;
         deliveries = small.deliveries;
       }
   performed (assigns x v) fits =
       record {
-        registers = put₂-holds Fits s.registers rank x fits small.registers;
+        registers = put₂_holds Fits s.registers rank x fits small.registers;
         cells = small.cells;
         deliveries = small.deliveries;
       }
@@ -100,15 +100,15 @@ module _ (P : Program) (few : Fits P.header.ranks) where
           registers = small.registers;
           cells = small.cells;
           deliveries =
-              put₂-holds Fitting s.machine.deliveries i.rank i.queue
+              put₂_holds Fitting s.machine.deliveries i.rank i.queue
               (each_snoc (small.deliveries i.rank i.queue) (small.cells a.source.rank a.source.cell)) small.deliveries;
         }
     stepped s i low small (delivers b rest c) =
         let (first, others) = each_out (oldest_out (taken_oldest c)) (small.deliveries i.rank i.queue) in
         record {
           registers = small.registers;
-          cells = put₂-holds Fits s.machine.cells b.destination.rank b.destination.cell first small.cells;
-          deliveries = put₂-holds Fitting s.machine.deliveries i.rank i.queue others small.deliveries;
+          cells = put₂_holds Fits s.machine.cells b.destination.rank b.destination.cell first small.cells;
+          deliveries = put₂_holds Fitting s.machine.deliveries i.rank i.queue others small.deliveries;
         }
 
     walked : {bytes : List ℕ} (s : Replay) (at : ℕ) (items : List Item) {run : Replayed} → Each (Ranged P.header bytes) items →

@@ -21,7 +21,7 @@ use Rattle.model.specs.Replay.{Event, Replayed, same_address, access_of}
 use Rattle.model.specs.HappensBefore.{At, is_command, rank_of, conflict}
 use Rattle.model.specs.Traces.{cell_of, value_at, SameTrace, SameValues, command_of}
 use Rattle.model.proofs.Lists.{position}
-use Rattle.model.proofs.Laws.{decided, and-true, getElem?-bound}
+use Rattle.model.proofs.Laws.{decided, and-true, get_elem?_bound}
 use Rattle.model.proofs.Replay.{same_address_true, true_same_address}
 use Rattle.record_facts.specs.Facts.{Facts, Local, count_of, cells_after}
 use Rattle.record_facts.proofs.Counts.{counted}
@@ -203,7 +203,7 @@ module _ {P : Program} {start : Start} {run run' : Replayed} (a : RecordedRun P 
       f.cells_end rank cell ∙
       ap (λ l. cells_after start l rank cell) (sym (take-length run.events)) ∙
       same_cell_lem (address rank cell) (length run.events) (length run'.events)
-      (λ w writes. ((λ less. getElem?-bound run'.events w.j w.second), (λ less. getElem?-bound run.events w.i w.first)))
+      (λ w writes. ((λ less. get_elem?_bound run'.events w.j w.second), (λ less. get_elem?_bound run.events w.i w.first)))
       (values_before (length run.events)) ∙
       ap (λ l. cells_after start l rank cell) (take-length run'.events) ∙
       sym (f'.cells_end rank cell)

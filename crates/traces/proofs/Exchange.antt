@@ -15,7 +15,7 @@ use Rattle.model.specs.Machine.{Start, Access}
 use Rattle.model.specs.Replay.{Event, Replay, Replayed, Taken, begin, take_items, replay}
 use Rattle.model.specs.HappensBefore.{At, conflict}
 use Rattle.model.specs.Traces.{SameTrace, InRecord}
-use Rattle.model.proofs.Laws.{bind_ok, ok_injective, getElem?-behind}
+use Rattle.model.proofs.Laws.{bind_ok, ok_injective, get_elem?_behind}
 use Rattle.model.proofs.Replay.{ItemTaken, item_taken}
 use Rattle.model.proofs.TakenItems.{headed, taken_onward, onward_taken, event_item, taken_items, joined, take_items_append, Ended, replay_taken}
 use Rattle.model.proofs.TakenItems.{taken_replay}
@@ -115,7 +115,7 @@ module _ (P : Program) (start : Start) (before : List Item) (x y : Item) (after 
 
       placed : (i k : ℕ) {e : Event} → length before + i ≡ k → At rest.events i e → At (joined front rest).events k e
       placed i k {e} is at =
-          subst (λ n. At (joined front rest).events n e) (ap (λ n. n + i) many ∙ is) (getElem?-behind front.events rest.events i ∙ at)
+          subst (λ n. At (joined front rest).events n e) (ap (λ n. n + i) many ∙ is) (get_elem?_behind front.events rest.events i ∙ at)
 
       may_behind : Exchangeable rest.events 0 x y
       may_behind =

@@ -12,7 +12,7 @@ use Rattle.model.specs.Machine.{State, Request, Delivery, Access, read_of, write
 use Rattle.model.specs.Machine.{set_requests, set_deliveries, Action, loads, stores, assigns, passes, issues, meets, action}
 use Rattle.model.specs.Replay.{Event, Origin, Replay, Taken, row_allows, row_after, opened_after, agrees_with, access_of, perform, origin_of}
 use Rattle.model.specs.Replay.{after_command, after_fetch, after_delivery, request_for, delivery_for, oldest}
-use Rattle.model.proofs.Laws.{decided, put_same, put_other, put₂-row, put₂-other-row}
+use Rattle.model.proofs.Laws.{decided, put_same, put_other, put₂_row, put₂_other_row}
 use Rattle.model.proofs.Replay.{CommandTaken, FetchTaken, DeliveryTaken, ItemTaken, commands, fetches, delivers}
 use Rattle.model.proofs.Erasing.{erased_taken, Marked, taken_marked}
 use Rattle.record_facts.specs.Facts.{written}
@@ -28,7 +28,7 @@ put_alike look f g i v w same here j = decided (eqb j i) (λ t. rw t here) (λ t
 
 rows_alike : {A B : Type 0} (look : A → B) (f g : ℕ → ℕ → A) (r i : ℕ) (v w : A) → ((j : ℕ) → look (f r j) ≡ look (g r j)) → look v ≡ look w →
     (j : ℕ) → look (put₂ f r i v r j) ≡ look (put₂ g r i w r j)
-rows_alike look f g r i v w same here j = rw (put₂-row f r i v, put₂-row g r i w) (put_alike look (f r) (g r) i v w same here j)
+rows_alike look f g r i v w same here j = rw (put₂_row f r i v, put₂_row g r i w) (put_alike look (f r) (g r) i v w same here j)
 
 -- The cells agree where an access is; then it is the same access.
 abbrev pub AgreeAt : Option Access → (cells others : ℕ → ℕ → ℕ) → Type 0
@@ -60,7 +60,7 @@ requests_kept r o (loads x c) m k other = refl
 requests_kept r o (stores c v) m k other = refl
 requests_kept r o (assigns x v) m k other = refl
 requests_kept r o passes m k other = refl
-requests_kept r o (issues q remote source destination) m k other = put₂-other-row m.requests r q _ k other
+requests_kept r o (issues q remote source destination) m k other = put₂_other_row m.requests r q _ k other
 requests_kept r o meets m k other = refl
 
 module _ (view : View) where
@@ -118,14 +118,14 @@ module _ (view : View) where
         Left (perform i.rank (origin_of s i) a s.machine) (perform i.rank (origin_of t i) a t.machine)
     unfolding perform set_register set_cell set_requests access_of
     performed (loads x c) agree = (
-      put₂-row s.machine.registers i.rank x _ ∙ ap₂ (λ f v. put f x v) same.registers agree ∙
-          sym (put₂-row t.machine.registers i.rank x _),
+      put₂_row s.machine.registers i.rank x _ ∙ ap₂ (λ f v. put f x v) same.registers agree ∙
+          sym (put₂_row t.machine.registers i.rank x _),
       same.requests,
     )
     performed (stores c v) agree = (same.registers, same.requests)
     performed (assigns x v) agree = (
-      put₂-row s.machine.registers i.rank x v ∙ ap (λ f. put f x v) same.registers ∙
-          sym (put₂-row t.machine.registers i.rank x v),
+      put₂_row s.machine.registers i.rank x v ∙ ap (λ f. put f x v) same.registers ∙
+          sym (put₂_row t.machine.registers i.rank x v),
       same.requests,
     )
     performed passes agree = (same.registers, same.requests)
@@ -285,8 +285,8 @@ module _ (view : View) where
         control = refl;
         registers = refl;
         taken = refl;
-        requests = λ q. ap (λ f. map seen_request (f q)) (sym (put₂-other-row s.machine.requests i.rank i.queue rest r other));
-        deliveries = λ q. ap (λ f. map seen_delivery (f q)) (sym (put₂-other-row s.machine.deliveries i.rank i.queue _ r other));
+        requests = λ q. ap (λ f. map seen_request (f q)) (sym (put₂_other_row s.machine.requests i.rank i.queue rest r other));
+        deliveries = λ q. ap (λ f. map seen_delivery (f q)) (sym (put₂_other_row s.machine.deliveries i.rank i.queue _ r other));
       }
   left_alone P s i (delivers b rest d) r other =
       record {
@@ -294,7 +294,7 @@ module _ (view : View) where
         registers = refl;
         taken = refl;
         requests = λ q. refl;
-        deliveries = λ q. ap (λ f. map seen_delivery (f q)) (sym (put₂-other-row s.machine.deliveries i.rank i.queue rest r other));
+        deliveries = λ q. ap (λ f. map seen_delivery (f q)) (sym (put₂_other_row s.machine.deliveries i.rank i.queue rest r other));
       }
 
 -- An item writes its access into the cells, and nothing else.

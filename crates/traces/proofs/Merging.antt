@@ -19,7 +19,7 @@ use Rattle.model.specs.Machine.{Start, Access}
 use Rattle.model.specs.Replay.{Event, Replayed, replay, same_address}
 use Rattle.model.specs.HappensBefore.{At, conflict, same_cell, either_writes}
 use Rattle.model.specs.Traces.{SameTrace, InRecord}
-use Rattle.model.proofs.Laws.{decided, and-true, true_and, eqb_refl, getElem?-map, getElem?-behind, each_weaker}
+use Rattle.model.proofs.Laws.{decided, and-true, true_and, eqb_refl, get_elem?_map, get_elem?_behind, each_weaker}
 use Rattle.model.proofs.Selections.{select_yes, select_no, select_append, split_at}
 use Rattle.model.proofs.Replay.{same_address_true, true_same_address}
 use Rattle.traces.specs.Claims.{RecordedRun, Exchangeable, writes_kind, in_log, at_cell, SameLogs}
@@ -172,13 +172,13 @@ module _ {P : Program} {start : Start} where
       first = split_at before y (x ∷ after)
 
       second : get_elem? (before ++ y ∷ x ∷ after) (suc (length before)) ≡ some x
-      second = let is : suc (length before) ≡ length before + 1 = omega arith in rw is (getElem?-behind before (y ∷ x ∷ after) 1)
+      second = let is : suc (length before) ≡ length before + 1 = omega arith in rw is (get_elem?_behind before (y ∷ x ∷ after) 1)
 
       -- An event is its item's.
       item_is : (i : ℕ) {e : Event} {z : Item} → At m.too.events i e → get_elem? (before ++ y ∷ x ∷ after) i ≡ some z → e.item ≡ z
       item_is i ae is =
           some-injective _ _
-          (sym (getElem?-map (λ e. e.item) m.too.events i ae) ∙ ap (λ l. get_elem? l i) (facts_of (record_of m)).items_of ∙ is)
+          (sym (get_elem?_map (λ e. e.item) m.too.events i ae) ∙ ap (λ l. get_elem? l i) (facts_of (record_of m)).items_of ∙ is)
 
       may : Exchangeable m.too.events (length before) y x
       may =

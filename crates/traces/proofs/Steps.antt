@@ -19,7 +19,7 @@ use Rattle.model.specs.Replay.{Event, Replayed, access_of}
 use Rattle.model.specs.HappensBefore.{At, is_command, rank_of}
 use Rattle.model.specs.Traces.{value_at, command_of}
 use Rattle.model.specs.Checks.{in_group}
-use Rattle.model.proofs.Laws.{and-true, ok_injective, getElem?-bound, getElem?-below, each_at}
+use Rattle.model.proofs.Laws.{and-true, ok_injective, get_elem?_bound, get_elem?_below, each_at}
 use Rattle.model.proofs.Selections.{select_at, select_from, Selected, selected_rises}
 use Rattle.record_facts.specs.Facts.{Facts, Local, CommandStep, Shape, single, transfer, row, count_of, registers_after}
 use Rattle.serializability.proofs.Projections.{command_of_true}
@@ -121,7 +121,7 @@ shape_fetched (row bars kinds ranks) k b at kind = absurd (command≢delivery (s
 module _ {P : Program} {start : Start} {items : List Item} {run : Replayed} (f : Facts P start items run) where
   pub command_at_lem : (rank place : ℕ) → place < count_of rank run.events → CommandAt run.events rank place
   command_at_lem rank place few =
-      let (e, there) = getElem?-below (select (command_of rank) run.events) place few in
+      let (e, there) = get_elem?_below (select (command_of rank) run.events) place few in
       let s : Selected (command_of rank) run.events place e = select_from (command_of rank) run.events place there in
       let (command, same) = and-true (is_command e) (eqb (rank_of e) rank) s.passes in
       let own : rank_of e ≡ rank = eqb-true (rank_of e) rank same in
@@ -139,7 +139,7 @@ module _ {P : Program} {start : Start} {items : List Item} {run : Replayed} (f :
       (d : CommandAt run.events (rank_of e) k) × (d.i < i)
   previous i e at c k is =
       let own = select_at (command_of (rank_of e)) run.events i at (command_of_true e c) in
-      let few = getElem?-bound (select (command_of (rank_of e)) run.events) (count_of (rank_of e) (take i run.events)) own in
+      let few = get_elem?_bound (select (command_of (rank_of e)) run.events) (count_of (rank_of e) (take i run.events)) own in
       let d : CommandAt run.events (rank_of e) k = command_at_lem (rank_of e) k (omega (arith, is, f.place_of i e at c, few)) in
       (d, place_order f d.i i d.at at d.command c d.own (omega (arith, is, d.here)))
 

@@ -12,7 +12,7 @@ use placing::place;
 use rings::ring;
 
 // Whether the groups that are listed are a ring and not an order, how many they are, and the list.
-#[derive(Drop)]
+#[derive(Clone, Copy)]
 pub struct Judged {
     pub cyclic: bool,
     pub count: usize,
