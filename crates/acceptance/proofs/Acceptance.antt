@@ -4,7 +4,7 @@ use mathlib.Core.Path.{◌≡◌, subst}
 use mathlib.Core.List.{List}
 use mathlib.Core.Logic.{◌↔◌}
 use Rattle.model.specs.declared.Item.{Item}
-use Rattle.model.specs.Refusals.{ok}
+use Rattle.model.specs.Refusals.{Ok}
 use Rattle.model.specs.Choice.{Each, all, one}
 use Rattle.model.specs.ItemKinds.{Part, command, fetch, delivery, part_of}
 use Rattle.model.specs.Programs.{Program}
@@ -19,7 +19,7 @@ use Rattle.acceptance.proofs.Completeness.{run_accepted}
 
 -- Accepted (document 01): the replay refuses no item and not the end, and leaves this state.
 abbrev pub ReplaysTo : Program → Start → List Item → Bare → Type 0
-ReplaysTo P start items last = (r : Replayed) × (replay P start items ≡ ok r) × (bare r.last.machine ≡ last)
+ReplaysTo P start items last = (r : Replayed) × (replay P start items ≡ Ok r) × (bare r.last.machine ≡ last)
 
 -- For every program, every start, and every list of items whose ranks and queues the machine has, of any length.
 pub accepted_iff_run : (P : Program) (start : Start) (items : List Item) (last : Bare) → Each (InRange P) items →

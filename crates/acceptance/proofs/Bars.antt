@@ -1,8 +1,9 @@
 -- Bars one at a time: a bar that the replay takes is the next of its row, and moves its rank; any other item comes only where no row is open.
+use Rattle.model.specs.declared.Action.TheVariants.{Meets}
+use Rattle.std.specs.Prelude.{None}
 use Prim.Native.Nat.{ℕ, ◌+◌}
 use mathlib.Core.Path.{◌≡◌, refl, sym, ap, subst, ◌∙◌}
 use mathlib.Core.Bool.{true, false, false≢true}
-use mathlib.Core.Option.{none}
 use lib.Dec.{eqb}
 use borrow.Author.Tests.{eqb-true}
 use Rattle.model.specs.declared.Kind.TheVariants.{Bar}
@@ -10,7 +11,7 @@ use Rattle.model.specs.declared.Item.{Item}
 use Rattle.model.specs.Choice.{when}
 use Rattle.model.specs.ItemKinds.{is_bar}
 use Rattle.model.specs.Programs.{Program, Command, bar, kind_of}
-use Rattle.model.specs.Machine.{Action, meets, move_to}
+use Rattle.model.specs.Machine.{Action, move_to}
 use Rattle.model.specs.Rules.{command, Rank, Enabled, Recorded}
 use Rattle.model.specs.Replay.{Replay, Taken, row_allows, row_after}
 use Rattle.model.proofs.ItemKinds.{same_kind_true, kind_of_bar}
@@ -21,10 +22,10 @@ use Rattle.acceptance.proofs.Marks.{successor, bare_perform}
 use Rattle.acceptance.proofs.Single.{command_enabled}
 
 -- A bar asks for no more than to meet.
-pub asks_bar : {P : Program} {r : ℕ} {registers : ℕ → ℕ} {c : Command} {a : Action} → Asks P r registers c a → kind_of c ≡ Bar → a ≡ meets
+pub asks_bar : {P : Program} {r : ℕ} {registers : ℕ → ℕ} {c : Command} {a : Action} → Asks P r registers c a → kind_of c ≡ Bar → a ≡ Meets
 asks_bar {P} {r} {registers} {c} {a} asks h = only (subst (λ (c : Command). Asks P r registers c a) (kind_of_bar c h) asks)
   where
-    only : {a : Action} → Asks P r registers bar a → a ≡ meets
+    only : {a : Action} → Asks P r registers bar a → a ≡ Meets
     only meeting = refl
 
 -- The row after a bar of this rank.
@@ -36,7 +37,7 @@ pub record BarTaken (P : Program) (s : Replay) (i : Item) (taken : Taken) : Type
   pub target : ℕ
   pub next : i.rank ≡ s.row + 1
   pub enabled : Enabled P (bare s.machine) i.rank i.transition bar target
-  pub recorded : Recorded (command Bar i.rank i.transition none) i
+  pub recorded : Recorded (command Bar i.rank i.transition None) i
   pub state : bare taken.state.machine ≡ move_to (bare s.machine) i.rank target
   pub row : taken.state.row ≡ row_past P i.rank
 

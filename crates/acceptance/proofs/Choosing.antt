@@ -1,9 +1,9 @@
 -- The entry that Table 1's pops take, the head or the oldest for a rank, is the one that the replay takes, with the marks and without them.
+use Rattle.std.specs.Prelude.{Some}
 use Prim.Native.Nat.{ℕ, ◌≤◌}
 use mathlib.Core.Path.{◌≡◌, refl, sym, ap, subst, ◌∙◌}
 use mathlib.Core.Bool.{true, false, true≢false}
 use mathlib.Core.List.{List, [], ◌∷◌, ◌++◌}
-use mathlib.Core.Option.{some}
 use native.Mathlib.Omega.{arith}
 use lib.Dec.{eqb}
 use borrow.Author.Tests.{eq-eqb, ne_eqb, eqb-true, eqb-false}
@@ -49,7 +49,7 @@ module _ (P : Program) {A : Type 0} (remote : A → ℕ) {queue : List A} {a : A
             each_weaker (λ x fails same. eqb-false named (remote x) (sym (named_tests named (remote x) other) ∙ fails) (sym same)) o.first;
       }
 
-  pub rule_takes : (named : ℕ) → named ≤ P.header.ranks → oldest (λ x. is_for named (remote x)) queue ≡ some (a, left) →
+  pub rule_takes : (named : ℕ) → named ≤ P.header.ranks → oldest (λ x. is_for named (remote x)) queue ≡ Some (a, left) →
       Chosen P remote queue a left named
   rule_takes named high h =
       let o = oldest_is (λ x. is_for named (remote x)) queue h in
@@ -63,7 +63,7 @@ module _ (P : Program) {A : Type 0} (remote : A → ℕ) {queue : List A} {a : A
       for_rank (record { low = omega (arith, other); high = high }) (named_one named other o))
 
   -- What a rule takes, the replay takes.
-  pub replay_takes : {named : ℕ} → Chosen P remote queue a left named → oldest (λ x. is_for named (remote x)) queue ≡ some (a, left)
+  pub replay_takes : {named : ℕ} → Chosen P remote queue a left named → oldest (λ x. is_for named (remote x)) queue ≡ Some (a, left)
   unfolding oldest
   replay_takes (head h) = rw (h, any_passes (remote a))
   replay_takes (for_rank {n} rank o) =

@@ -1,16 +1,16 @@
 -- The replay accepts every run of Table 1. Each step's items are taken in turn: one item, or the N bars of a row, rank by rank.
+use Rattle.std.specs.Prelude.{None}
 use Prim.Native.Nat.{ℕ, zero, suc, ◌+◌, ◌<◌}
 use mathlib.Core.Path.{◌≡◌, refl, sym, ap, subst, ◌∙◌}
 use mathlib.Core.Bool.{true, false}
 use mathlib.Core.List.{List, [], ◌∷◌, ◌++◌, map}
-use mathlib.Core.Option.{none}
 use native.Mathlib.Omega.{arith}
 use lib.Dec.{eqb}
 use lib.ListN.{length}
 use borrow.Author.Tests.{eq-eqb, ne_eqb}
 use Rattle.model.specs.declared.Kind.TheVariants.{Bar}
 use Rattle.model.specs.declared.Item.{Item}
-use Rattle.model.specs.Refusals.{ok}
+use Rattle.model.specs.Refusals.{Ok}
 use Rattle.model.specs.Choice.{numbers_from}
 use Rattle.model.specs.ItemKinds.{is_bar}
 use Rattle.model.specs.Programs.{Program, Command, kind_of}
@@ -32,7 +32,7 @@ use Rattle.acceptance.proofs.Bars.{row_past, BarTaken, bar_taken, single_row}
 -- The replay takes these items, whatever their numbers, leaves this state, and then no row is open.
 pub record TakesAll (P : Program) (s : Replay) (items : List Item) (last : Bare) : Type 0 where
   pub replayed : Replayed
-  pub takes : (at : ℕ) → take_items P s at items ≡ ok replayed
+  pub takes : (at : ℕ) → take_items P s at items ≡ Ok replayed
   pub state : bare replayed.last.machine ≡ last
   pub row : replayed.last.row ≡ 0
 
@@ -84,7 +84,7 @@ module _ (P : Program) where
   module _ (s₀ : Bare) (t st' : ℕ → ℕ) (enabled : (r : ℕ) → Rank P r → Enabled P s₀ r (t r) Command.bar (st' r)) where
     -- The bar of the next rank of a row is taken.
     next_taken : (k : ℕ) → k < P.header.ranks → (s : Replay) → s.row ≡ row_past P k → bare s.machine ≡ moved s₀ k st' → (i : Item) →
-        Recorded (command Bar (k + 1) (t (k + 1)) none) i →
+        Recorded (command Bar (k + 1) (t (k + 1)) None) i →
         (taken : Taken) × ItemTaken P s i taken × (taken.state.row ≡ row_past P (k + 1)) × (bare taken.state.machine ≡ moved s₀ (k + 1) st')
     unfolding row_allows kind_of access_of successor
     next_taken k below s row state i recorded =
@@ -105,7 +105,7 @@ module _ (P : Program) where
 
     -- The bars of the ranks after k are taken, and then all have moved.
     row_taken : (left k : ℕ) → k + left ≡ P.header.ranks → (s : Replay) → s.row ≡ row_past P k → bare s.machine ≡ moved s₀ k st' →
-        {items : List Item} → AllRecorded (map (λ r. command Bar r (t r) none) (numbers_from (k + 1) left)) items →
+        {items : List Item} → AllRecorded (map (λ r. command Bar r (t r) None) (numbers_from (k + 1) left)) items →
         TakesAll P s items (moved s₀ P.header.ranks st')
     unfolding numbers_from
     row_taken zero k size s row state all =
@@ -164,7 +164,7 @@ module _ (P : Program) where
 
 -- A run from a start is accepted, and leaves the run's last state.
 pub run_accepted : (P : Program) (start : Start) (items : List Item) (last : Bare) → IsRun P start items last →
-    (r : Replayed) × (replay P start items ≡ ok r) × (bare r.last.machine ≡ last)
+    (r : Replayed) × (replay P start items ≡ Ok r) × (bare r.last.machine ≡ last)
 unfolding begin bare
 run_accepted P start items last h =
     let t : TakesAll P (begin start) items last = run_taken P h.run (begin start) refl refl h.recorded in

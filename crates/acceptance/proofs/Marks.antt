@@ -1,11 +1,12 @@
 -- What the replay leaves after an item is what Table 1's rule leaves, but for the marks. Erasing commutes with every change of a state: the parts
 -- without marks are the same, and in the queues a list with its marks erased takes the place of a list with its marks erased.
+use Rattle.model.specs.declared.Action.TheVariants.{Loads, Stores, Assigns, Passes, Issues, Meets}
 use Prim.Native.Nat.{ℕ}
 use mathlib.Core.Path.{◌≡◌, refl, ap, ◌∙◌}
 use mathlib.Core.List.{List, [], ◌∷◌, ◌++◌, map, map-append}
 use Rattle.model.specs.declared.Item.{Item}
 use Rattle.model.specs.Programs.{Program}
-use Rattle.model.specs.Machine.{State, Request, Delivery, Action, loads, stores, assigns, passes, issues, meets, address, cell_at, move_to, set_register, set_cell, set_requests, set_deliveries}
+use Rattle.model.specs.Machine.{State, Request, Delivery, Action, address, cell_at, move_to, set_register, set_cell, set_requests, set_deliveries}
 use Rattle.model.specs.Rules.{Bare, ask, send}
 use Rattle.model.specs.Replay.{Origin, Replay, perform, sent_on, after_fetch, after_delivery}
 use Rattle.model.proofs.Laws.{put₂_map}
@@ -46,26 +47,26 @@ module _ {Mark : Type 0} (s : State Mark) (rank queue : ℕ) where
 -- The successor state of Table 1's rules, by what rank r's command asks for and where it moves.
 unfoldable pub successor : Program → Bare → (r : ℕ) → Action → (q₂ : ℕ) → Bare
 unfolding move_to set_register set_cell set_requests
-successor P s r (loads x a) q₂ = set_register (move_to s r q₂) r x (s.cells r a)
-successor P s r (stores a v) q₂ = set_cell (move_to s r q₂) (address r a) v
-successor P s r (assigns x v) q₂ = set_register (move_to s r q₂) r x v
-successor P s r passes q₂ = move_to s r q₂
-successor P s r (issues q remote source destination) q₂ = ask P (move_to s r q₂) r q remote source destination
-successor P s r meets q₂ = move_to s r q₂
+successor P s r (Loads x a) q₂ = set_register (move_to s r q₂) r x (s.cells r a)
+successor P s r (Stores a v) q₂ = set_cell (move_to s r q₂) (address r a) v
+successor P s r (Assigns x v) q₂ = set_register (move_to s r q₂) r x v
+successor P s r Passes q₂ = move_to s r q₂
+successor P s r (Issues q remote source destination) q₂ = ask P (move_to s r q₂) r q remote source destination
+successor P s r Meets q₂ = move_to s r q₂
 
 -- A command item leaves it.
 pub bare_perform : (P : Program) (m : State Origin) (r : ℕ) (origin : Origin) (a : Action) (q₂ : ℕ) →
     bare (move_to (perform r origin a m) r q₂) ≡ successor P (bare m) r a q₂
 unfolding bare perform successor move_to
-bare_perform P m r origin (loads x a) q₂ = refl
-bare_perform P m r origin (stores a v) q₂ = refl
-bare_perform P m r origin (assigns x v) q₂ = refl
-bare_perform P m r origin passes q₂ = refl
-bare_perform P m r origin (issues q remote source destination) q₂ =
+bare_perform P m r origin (Loads x a) q₂ = refl
+bare_perform P m r origin (Stores a v) q₂ = refl
+bare_perform P m r origin (Assigns x v) q₂ = refl
+bare_perform P m r origin Passes q₂ = refl
+bare_perform P m r origin (Issues q remote source destination) q₂ =
     let entry : Request Origin = record { remote = remote; source = source; destination = destination; mark = origin } in
     ap (λ (s : Bare). move_to s r q₂) (bare_set_requests m r q (m.requests r q ++ entry ∷ [])) ∙
     ap (set_requests (move_to (bare m) r q₂) r q) (map-append bare_request (m.requests r q) (entry ∷ []))
-bare_perform P m r origin meets q₂ = refl
+bare_perform P m r origin Meets q₂ = refl
 
 -- The successor states of the rules for pops, by the entry that is taken and the entries that are left.
 abbrev pub fetch_successor : Program → Bare → (r q : ℕ) → Request (Unit {0}) → List (Request (Unit {0})) → Bare

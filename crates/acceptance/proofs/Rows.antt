@@ -1,10 +1,10 @@
 -- A barrier row: the replay moves one rank at each of its bars, Table 1 moves all at once. In between stands the state in which ranks 1 to k have
 -- moved; from no rank to all N of them the one grows into the other.
+use Rattle.std.specs.Prelude.{Some, None}
 use Prim.Native.Nat.{ℕ, ◌+◌, ◌≤◌}
 use mathlib.Core.Path.{◌≡◌, sym, ap, ap₂, subst, fun_ext, ◌∙◌}
 use mathlib.Core.Bool.{false≢true}
 use mathlib.Core.List.{List, [], ◌∷◌, ◌++◌, map, map-append}
-use mathlib.Core.Option.{some, none}
 use native.Mathlib.Omega.{arith}
 use native.Mathlib.Numerals.{add-one}
 use lib.Dec.{eqb}
@@ -87,16 +87,16 @@ moved_next s k q st' st'' here before =
 
 -- The events of ranks 1 to k in a row.
 abbrev pub row_labels : (t : ℕ → ℕ) → (k : ℕ) → List Label
-row_labels t k = map (λ r. command Bar r (t r) none) (numbers_from 1 k)
+row_labels t k = map (λ r. command Bar r (t r) None) (numbers_from 1 k)
 
 -- One rank more adds its event.
 row_labels_next : (t t' : ℕ → ℕ) (k : ℕ) → ((r : ℕ) → 1 ≤ r → r ≤ k → t' r ≡ t r) →
-    row_labels t' (k + 1) ≡ row_labels t k ++ command Bar (k + 1) (t' (k + 1)) none ∷ []
+    row_labels t' (k + 1) ≡ row_labels t k ++ command Bar (k + 1) (t' (k + 1)) None ∷ []
 row_labels_next t t' k h =
-    let event : (ℕ → ℕ) → ℕ → Label = λ u r. command Bar r (u r) none in
+    let event : (ℕ → ℕ) → ℕ → Label = λ u r. command Bar r (u r) None in
     ap (row_labels t') (add-one k) ∙ ap (map (event t')) (numbers_from_snoc 1 k) ∙ map-append (event t') (numbers_from 1 k) ((1 + k) ∷ []) ∙
     ap₂ (λ (l : List Label) (n : ℕ). l ++ event t' n ∷ [])
-    (map_numbers (event t') (event t) 1 k (λ n low high. ap (λ u. command Bar n u none) (h n low (omega arith))))
+    (map_numbers (event t') (event t) 1 k (λ n low high. ap (λ u. command Bar n u None) (h n low (omega arith))))
     (omega arith)
 
 -- Ranks 1 to k have entered a row that opened in state s₀, and the state is now s: each had its bar enabled at s₀, and has moved.
@@ -126,7 +126,7 @@ row_step P s₀ s e =
 pub enabled_elsewhere : (P : Program) (s s' : Bare) {r t q₂ : ℕ} {c : Command} → s.control r ≡ s'.control r → Enabled P s r t c q₂ →
     Enabled P s' r t c q₂
 enabled_elsewhere P s s' {q₂ = q₂} {c = c} h e =
-    record { rank = e.rank; transition = e.transition ∙ ap (λ n. some (record { source = n; target = q₂; command = c })) h }
+    record { rank = e.rank; transition = e.transition ∙ ap (λ n. Some (record { source = n; target = q₂; command = c })) h }
 
 -- What stands for the ranks up to k is kept when the next one's is put beside it.
 put_earlier : {k : ℕ} (f : ℕ → ℕ) (v r : ℕ) → r ≤ k → put f (k + 1) v r ≡ f r
@@ -138,7 +138,7 @@ Grown P {s₀} {s} {j} e l k s' = (e' : Entered P s₀ k s') × (row_labels e'.t
 
 -- The next rank enters.
 pub enter : (P : Program) {s₀ s : Bare} {k t q₂ : ℕ} (e : Entered P s₀ k s) → Enabled P s (k + 1) t Command.bar q₂ →
-    Grown P e (command Bar (k + 1) t none) (k + 1) (move_to s (k + 1) q₂)
+    Grown P e (command Bar (k + 1) t None) (k + 1) (move_to s (k + 1) q₂)
 enter P {s₀} {s} {k} {t} {q₂} e next =
     let transition : ℕ → ℕ = put e.transition (k + 1) t in
     let target : ℕ → ℕ = put e.target (k + 1) q₂ in
@@ -158,5 +158,5 @@ enter P {s₀} {s} {k} {t} {q₂} e next =
             moved_next s₀ k q₂ e.target target (put_same e.target (k + 1) q₂) (λ r low high. put_earlier e.target q₂ r high);
       },
       row_labels_next e.transition transition k (λ r low high. put_earlier e.transition t r high) ∙
-          ap (λ n. row_labels e.transition k ++ command Bar (k + 1) n none ∷ []) (put_same e.transition (k + 1) t),
+          ap (λ n. row_labels e.transition k ++ command Bar (k + 1) n None ∷ []) (put_same e.transition (k + 1) t),
     )

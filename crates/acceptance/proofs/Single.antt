@@ -1,11 +1,11 @@
 -- An item other than a bar is a step of Table 1 exactly if the replay takes it.
+use Rattle.std.specs.Prelude.{Option, Some}
 use Prim.Native.Nat.{ℕ, ◌≤◌}
 use mathlib.Core.Path.{◌≡◌, refl, sym, ap, ap₂, subst, subst₂, ◌∙◌}
 use mathlib.Core.Bool.{Bool, true, false, true≢false}
 use mathlib.Core.List.{List, [], ◌∷◌, map}
 use mathlib.Core.Logic.Iff
 use mathlib.Core.Logic.{◌↔◌}
-use mathlib.Core.Option.{Option, some}
 use Rattle.model.specs.declared.Kind.{Kind}
 use Rattle.model.specs.declared.Kind.TheVariants.{Popa, Popb}
 use Rattle.model.specs.declared.Item.{Item}
@@ -42,7 +42,7 @@ pub command_enabled : (P : Program) (s : Replay) (i : Item) {t : Transition} {a 
     Enabled P (bare s.machine) i.rank i.transition t.command t.target
 unfolding bare
 command_enabled P s i {t} rank c =
-    record { rank = rank; transition = c.found ∙ ap (λ n. some (record { source = n; target = t.target; command = t.command })) c.source }
+    record { rank = rank; transition = c.found ∙ ap (λ n. Some (record { source = n; target = t.target; command = t.command })) c.source }
 
 -- An item as a step: its event, and the state after it.
 pub record Stepped (P : Program) (s : Bare) (i : Item) (last : Bare) : Type 0 where

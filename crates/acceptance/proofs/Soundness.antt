@@ -1,16 +1,16 @@
 -- What the replay accepts is a run of Table 1. The items are walked once; on the way the ranks of an open row are remembered with the state in which
 -- it opened, and the bar of rank N turns them into one step.
+use Rattle.std.specs.Prelude.{None}
 use Prim.Native.Nat.{ℕ, ◌+◌}
 use mathlib.Core.Path.{◌≡◌, refl, sym, ap, subst, subst₂, ◌∙◌}
 use mathlib.Core.Bool.{true, false}
 use mathlib.Core.List.{List, [], ◌∷◌, ◌++◌}
-use mathlib.Core.Option.{none}
 use lib.Dec.{eqb}
 use lib.Seq.{append_snoc}
 use borrow.Author.Tests.{eqb-true}
 use Rattle.model.specs.declared.Kind.TheVariants.{Bar}
 use Rattle.model.specs.declared.Item.{Item}
-use Rattle.model.specs.Refusals.{ok}
+use Rattle.model.specs.Refusals.{Ok}
 use Rattle.model.specs.Choice.{numbers_from, Each}
 use Rattle.model.specs.ItemKinds.{is_bar}
 use Rattle.model.specs.Programs.{Program, Command}
@@ -58,11 +58,11 @@ module _ (P : Program) where
   -- What is shown of a list of items: from any state, in a row or not.
   abbrev Walked : List Item → Type 0
   Walked items = (s : Replay) (at : ℕ) (s₀ : Bare) (e : Entered P s₀ s.row (bare s.machine)) (r : Replayed) →
-      take_items P s at items ≡ ok r → r.last.row ≡ 0 →
+      take_items P s at items ≡ Ok r → r.last.row ≡ 0 →
       Continues P s₀ (row_labels e.transition s.row) items (bare r.last.machine)
 
   -- From a state with no open row.
-  fresh : {items : List Item} → Walked items → (s : Replay) (at : ℕ) (r : Replayed) → s.row ≡ 0 → take_items P s at items ≡ ok r →
+  fresh : {items : List Item} → Walked items → (s : Replay) (at : ℕ) (r : Replayed) → s.row ≡ 0 → take_items P s at items ≡ Ok r →
       r.last.row ≡ 0 → Continues P (bare s.machine) [] items (bare r.last.machine)
   fresh {items} walked s at r row h end =
       let s₀ : Bare = bare s.machine in
@@ -72,7 +72,7 @@ module _ (P : Program) where
   -- The walk past an item i that is taken, if the items after it can be walked.
   module _ (s : Replay) (at : ℕ) (s₀ : Bare) (e : Entered P s₀ s.row (bare s.machine)) (r : Replayed) (i : Item) (items : List Item)
       (walked : Walked items) (range : InRange P i) (taken : Taken) (item : ItemTaken P s i taken)
-      (rest : take_items P taken.state (at + 1) items ≡ ok r) (end : r.last.row ≡ 0) where
+      (rest : take_items P taken.state (at + 1) items ≡ Ok r) (end : r.last.row ≡ 0) where
     -- An item that is no bar comes first.
     single_walked : is_bar i.kind ≡ false → Continues P s₀ (row_labels e.transition s.row) (i ∷ items) (bare r.last.machine)
     single_walked single =
@@ -85,13 +85,13 @@ module _ (P : Program) where
 
     -- The row with this bar.
     abbrev Next : ℕ → Type 0
-    Next k = Grown P e (command Bar i.rank i.transition none) k (bare taken.state.machine)
+    Next k = Grown P e (command Bar i.rank i.transition None) k (bare taken.state.machine)
 
     next : BarTaken P s i taken → Next i.rank
     next b =
         let m : Bare = bare s.machine in
-        let enters : (k : ℕ) → Type 0 = λ k. Grown P e (command Bar k i.transition none) k (move_to m k b.target) in
-        subst (Grown P e (command Bar i.rank i.transition none) i.rank) (sym b.state)
+        let enters : (k : ℕ) → Type 0 = λ k. Grown P e (command Bar k i.transition None) k (move_to m k b.target) in
+        subst (Grown P e (command Bar i.rank i.transition None) i.rank) (sym b.state)
         (subst (λ k. Enabled P m k i.transition Command.bar b.target → enters k) (sym b.next) (enter P e) b.enabled)
 
     -- A bar comes first: it closes its row, or the row goes on.
@@ -135,7 +135,7 @@ module _ (P : Program) where
       (single_walked s at s₀ e others i items walked range taken item rest end'))
 
 -- An accepted list of items is a run.
-pub accepted_run : (P : Program) (start : Start) (items : List Item) (r : Replayed) → Each (InRange P) items → replay P start items ≡ ok r →
+pub accepted_run : (P : Program) (start : Start) (items : List Item) (r : Replayed) → Each (InRange P) items → replay P start items ≡ Ok r →
     IsRun P start items (bare r.last.machine)
 unfolding begin bare
 accepted_run P start items r ranges h =

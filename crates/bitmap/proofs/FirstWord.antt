@@ -1,9 +1,9 @@
 -- The first word that is not 0 has the lowest number of the set, and without that number's bit the bitmap holds the others.
+use Rattle.std.specs.Prelude.{Option, Some, None}
 use Prim.Native.Nat.{ℕ, ◌/◌, ◌%◌, ◌^◌, ◌<◌}
 use mathlib.Core.Path.{◌≡◌, refl, sym, ap, ap₂, ◌∙◌}
 use mathlib.Core.Bool.{Bool, true, false, not, ◌&&◌, and-true, and-false, true≢false}
 use mathlib.Core.List.{List}
-use mathlib.Core.Option.{Option, some, none}
 use native.Mathlib.Omega.{arith}
 use lib.Dec.{ltb, eqb}
 use borrow.Author.Tests.{eqb-true, eqb-false, ne_eqb, lt-ltb, ltb-true, ltb-false, not-true, not-false}
@@ -36,8 +36,8 @@ pub record IsFirst (b : List ℕ) (word : ℕ) : Type 0 where
   pub least : (other : ℕ) → other < word → word_at b other ≡ 0
 
 pub data First (b : List ℕ) : Option ℕ → Type 0 where
-  no_word : ((word : ℕ) → word < words → word_at b word ≡ 0) → First b none
-  the_word : {word : ℕ} → IsFirst b word → First b (some word)
+  no_word : ((word : ℕ) → word < words → word_at b word ≡ 0) → First b None
+  the_word : {word : ℕ} → IsFirst b word → First b (Some word)
 
 module _ {b : List ℕ} {p : ℕ → Bool} (h : Holds b p) where
   -- A word is 0 where the summary does not mark it, and else it is not.

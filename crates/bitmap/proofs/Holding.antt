@@ -1,10 +1,11 @@
 -- What a bitmap holds: nothing, then one number more by an insertion, and one less by taking the lowest. The crates above cite these laws and never
 -- look at a bit.
+use Rattle.std.specs.Prelude.{Option, Some, None}
+use Rattle.model.proofs.Options.{none-ne-some, some-injective}
 use Prim.Native.Nat.{ℕ, zero, suc, ◌/◌, ◌%◌, ◌<◌}
 use mathlib.Core.Path.{◌≡◌, refl, sym, subst, ap, ap₂, ◌∙◌}
 use mathlib.Core.Bool.{Bool, true, false, not, ◌&&◌, ◌||◌, or_comm, or-true, or-false}
 use mathlib.Core.List.{List}
-use mathlib.Core.Option.{Option, some, none, none-ne-some, some-injective}
 use native.Mathlib.Omega.{arith}
 use lib.Dec.{eqb}
 use lib.ListN.{replicate, length-replicate}
@@ -98,28 +99,28 @@ module _ {b : List ℕ} {p : ℕ → Bool} (h : Holds b p) (n : ℕ) (below : n 
 
 -- The laws, by whether there is a first word.
 module _ {b : List ℕ} {p : ℕ → Bool} (h : Holds b p) where
-  none_in : {word : Option ℕ} → First b word → lowest_of b word ≡ none → (n : ℕ) → n < max_items → p n ≡ false
+  none_in : {word : Option ℕ} → First b word → lowest_of b word ≡ None → (n : ℕ) → n < max_items → p n ≡ false
   none_in (no_word zeros) e n below =
       sym (h.held n below) ∙ ap (bit (n % word_bits)) (zeros (n / word_bits) (omega arith)) ∙ bit_zero (n % word_bits)
   none_in (the_word {word} f) e n below = absurd (none-ne-some (number_in b word) (sym e))
 
-  some_in : {word : Option ℕ} {n : ℕ} → First b word → lowest_of b word ≡ some n → IsLowest p n
+  some_in : {word : Option ℕ} {n : ℕ} → First b word → lowest_of b word ≡ Some n → IsLowest p n
   some_in {n = n} (no_word zeros) e = absurd (none-ne-some n e)
   some_in (the_word f) e = subst (IsLowest p) (some-injective _ _ e) (number_lowest h f)
 
-  rest_in : {word : Option ℕ} {n : ℕ} → First b word → lowest_of b word ≡ some n → Holds (rest_of b word) (λ m. p m && not (eqb m n))
+  rest_in : {word : Option ℕ} {n : ℕ} → First b word → lowest_of b word ≡ Some n → Holds (rest_of b word) (λ m. p m && not (eqb m n))
   rest_in {n = n} (no_word zeros) e = absurd (none-ne-some n e)
   rest_in (the_word {word} f) e =
       subst (λ n. Holds (cleared_in b word) (λ m. p m && not (eqb m n))) (some-injective _ _ e) (cleared_holds h f)
 
-  pub lowest_none : lowest_in b ≡ none → (n : ℕ) → n < max_items → p n ≡ false
+  pub lowest_none : lowest_in b ≡ None → (n : ℕ) → n < max_items → p n ≡ false
   unfolding lowest_in
   lowest_none = none_in (first h)
 
-  pub lowest_some : {n : ℕ} → lowest_in b ≡ some n → IsLowest p n
+  pub lowest_some : {n : ℕ} → lowest_in b ≡ Some n → IsLowest p n
   unfolding lowest_in
   lowest_some = some_in (first h)
 
-  pub taken_holds : {n : ℕ} → lowest_in b ≡ some n → Holds (lowest_taken b) (λ m. p m && not (eqb m n))
+  pub taken_holds : {n : ℕ} → lowest_in b ≡ Some n → Holds (lowest_taken b) (λ m. p m && not (eqb m n))
   unfolding lowest_in lowest_taken
   taken_holds = rest_in (first h)

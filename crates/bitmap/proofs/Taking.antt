@@ -1,14 +1,15 @@
--- Taking the lowest number, by cases as the code meets them.
-use Prim.Native.Nat.{ℕ, ◌+◌, ◌*◌, ◌≤◌, ◌<◌}
+-- Finding the first word and taking the lowest number, by cases as the code meets them.
+use Rattle.std.specs.Prelude.{Option, Some, None}
+use Prim.Native.Nat.{ℕ, ◌≤◌, ◌<◌}
 use mathlib.Core.Path.{◌≡◌, ap, sym, ◌∙◌}
 use mathlib.Core.List.{List}
-use mathlib.Core.Option.{Option, some, none}
 use native.Mathlib.Omega.{arith}
+use lib.Count.{count_trailing_zeros}
 use lib.Dec.{ltb, eqb}
 use lib.ListN.{set}
+use lib.Seq.{get_or-set_other}
 use borrow.Author.Tests.{lt-ltb, le-ltb, eq-eqb, ne_eqb}
 use Rattle.model.proofs.Laws.{decided}
-use Rattle.bitmap.specs.declared.Lowest.TheVariants.{Number, Empty}
 use Rattle.bitmap.specs.Bitmaps.{
   words,
   word_bits,
@@ -18,72 +19,72 @@ use Rattle.bitmap.specs.Bitmaps.{
   without_lowest,
   first_marked,
   first_word,
+  number_in,
   cleared_in,
   lowest_of,
   rest_of,
-  found,
   lowest_in,
   lowest_taken,
-  found_in,
+  IsMarked,
   Taken,
 }
 
--- What an answer says of the lowest number.
-number_found : (lowest : Option ℕ) {n : ℕ} → found lowest ≡ Number n → lowest ≡ some n
-number_found none e = let z : ◌≡◌ {A = ℕ} 0 1 = cc in absurd (omega arith)
-number_found (some m) e = cc
-
-pub found_number : (b : List ℕ) {n : ℕ} → found_in b ≡ Number n → lowest_in b ≡ some n
-unfolding found_in
-found_number b = number_found (lowest_in b)
-
 module _ (b : List ℕ) where
-  none_taken : first_word b ≡ none → Taken b b Empty
-  unfolding found_in lowest_in lowest_taken
-  none_taken e = record { answers = sym (ap (λ w. found (lowest_of b w)) e); leaves = sym (ap (rest_of b) e) }
-
-  pub no_summary : summary_of b ≡ 0 → Taken b b Empty
-  unfolding first_word
-  no_summary e = none_taken (rw (eq-eqb (summary_of b) 0 e))
+  -- A summary of 0 has no lowest bit: the place is beyond the words.
+  marks_none : summary_of b ≡ 0 → words ≤ first_marked b
+  unfolding count_trailing_zeros
+  marks_none e = let beyond : first_marked b ≡ word_bits = ap lowest_bit e in omega arith
 
   -- The word that the code found in the summary.
   module _ (word : ℕ) (e : word ≡ first_marked b) where
-    pub beyond_words : words ≤ word → Taken b b Empty
+    pub beyond_words : words ≤ word → None ≡ first_word b
     unfolding first_word
     beyond_words h =
         let h' : words ≤ first_marked b = rw e at h in
-        none_taken (decided (eqb (summary_of b) 0) (λ t. rw t) (λ t. rw (t, le-ltb _ _ h')))
+        decided (eqb (summary_of b) 0) (λ t. rw t) (λ t. rw (t, le-ltb _ _ h'))
 
-    pub word_zero : word_at b word ≡ 0 → Taken b b Empty
+    pub word_zero : word_at b word ≡ 0 → None ≡ first_word b
     unfolding first_word
     word_zero z =
         let z' : word_at b (first_marked b) ≡ 0 = rw e at z in
-        none_taken
-        (decided (eqb (summary_of b) 0)
+        decided (eqb (summary_of b) 0)
         (λ t. rw t)
-        (λ t. decided (ltb (first_marked b) words) (λ u. rw (t, u, eq-eqb _ _ z')) (λ u. rw (t, u))))
+        (λ t. decided (ltb (first_marked b) words) (λ u. rw (t, u, eq-eqb _ _ z')) (λ u. rw (t, u)))
 
-    pub word_found : ¬ (summary_of b ≡ 0) → word < words → ¬ (word_at b word ≡ 0) → first_word b ≡ some word
-    unfolding first_word
-    word_found d h z =
-        let h' : first_marked b < words = rw e at h in
-        let z' : ¬ (word_at b (first_marked b) ≡ 0) = rw e at z in
-        rw (e, ne_eqb _ _ d, lt-ltb _ _ h', ne_eqb _ _ z')
+    module _ (h : word < words) (z : ¬ (word_at b word ≡ 0)) where
+      summary_some : ¬ (summary_of b ≡ 0)
+      summary_some s = let beyond = marks_none s in omega (arith, beyond, e, h)
 
-  -- What the code leaves, with the place of the bit that it found in the word.
-  module _ {word place : ℕ} {c : List ℕ} (e : first_word b ≡ some word) (f : place ≡ lowest_bit (word_at b word)) where
-    some_taken : c ≡ cleared_in b word → Taken b c (Number (word * word_bits + place))
-    unfolding found_in lowest_in lowest_taken
-    some_taken s =
-        record {
-          answers = ap (λ i. Number (word * word_bits + i)) f ∙ sym (ap (λ w. found (lowest_of b w)) e);
-          leaves = s ∙ sym (ap (rest_of b) e);
-        }
+      pub word_found : Some word ≡ first_word b
+      unfolding first_word
+      word_found =
+          let h' : first_marked b < words = rw e at h in
+          let z' : ¬ (word_at b (first_marked b) ≡ 0) = rw e at z in
+          rw (e, ne_eqb _ _ summary_some, lt-ltb _ _ h', ne_eqb _ _ z')
 
-    pub word_emptied : without_lowest (word_at b word) ≡ 0 →
-        c ≡ set (set b word (without_lowest (word_at b word))) words (without_lowest (summary_of b)) → Taken b c (Number (word * word_bits + place))
-    word_emptied z s = some_taken (s ∙ rw (eq-eqb (without_lowest (word_at b word)) 0 z))
+      pub word_marked : IsMarked b word
+      word_marked = record { below = h; word_positive = omega (arith, z); summary_positive = omega (arith, summary_some) }
+
+  pub none_taken : first_word b ≡ None → Taken b b None
+  unfolding lowest_in lowest_taken
+  none_taken e = record { answers = sym (ap (lowest_of b) e); leaves = sym (ap (rest_of b) e) }
+
+  -- What the code leaves, with the number that it found in the word.
+  module _ {word number : ℕ} {c : List ℕ} (e : first_word b ≡ Some word) (f : number ≡ number_in b word) where
+    some_taken : c ≡ cleared_in b word → Taken b c (Some number)
+    unfolding lowest_in lowest_taken
+    some_taken s = record { answers = ap {B = Option ℕ} Some f ∙ sym (ap (lowest_of b) e); leaves = s ∙ sym (ap (rest_of b) e) }
+
+    -- The summary is looked at behind the change of the word, which leaves it.
+    pub word_emptied : word < words → without_lowest (word_at b word) ≡ 0 →
+        c
+        ≡ set (set b word (without_lowest (word_at b word))) words
+        (without_lowest (summary_of (set b word (without_lowest (word_at b word))))) →
+        Taken b c (Some number)
+    word_emptied h z s =
+        let same = get_or-set_other b word words (without_lowest (word_at b word)) 0 (λ e. omega (arith, e, h)) in
+        some_taken (rw same at s ∙ rw (eq-eqb (without_lowest (word_at b word)) 0 z))
 
     pub word_kept : ¬ (without_lowest (word_at b word) ≡ 0) →
-        c ≡ set b word (without_lowest (word_at b word)) → Taken b c (Number (word * word_bits + place))
+        c ≡ set b word (without_lowest (word_at b word)) → Taken b c (Some number)
     word_kept d s = some_taken (s ∙ rw (ne_eqb (without_lowest (word_at b word)) 0 d))

@@ -1,13 +1,10 @@
 -- Sets of numbers below 1,024 as bits in words of 64, with the words that are not 0 marked in a summary word behind them. The definitions branch
 -- where the code does, and are total: what no bit stands for changes nothing.
-use Rattle.std.specs.Prelude.{ℕ, ◌+◌, ◌-◌, ◌*◌, ◌/◌, ◌%◌, ◌^◌, ◌<◌, ◌≡◌, Bool, true, false, not, List, ltb, eqb, length, get_or, set, replicate}
-use Rattle.std.proofs.Math.Option.{Option, some, none}
+use Rattle.std.specs.Prelude.{ℕ, ◌+◌, ◌-◌, ◌*◌, ◌/◌, ◌%◌, ◌^◌, ◌<◌, ◌≡◌, Bool, true, false, not, List, ltb, eqb, length, get_or, set, replicate, Option, Some, None}
 use Rattle.std.specs.Int.Bits.{bit_and, bit_or}
 use Rattle.std.specs.Int.Count.{count_trailing_zeros}
 use Rattle.model.specs.Limits.{max_items}
 use Rattle.model.specs.Choice.{when, bit}
-use Rattle.bitmap.specs.declared.Lowest.{Lowest}
-use Rattle.bitmap.specs.declared.Lowest.TheVariants.{Number, Empty}
 
 abbrev pub words : ℕ
 words = 16
@@ -57,11 +54,17 @@ first_marked bitmap = lowest_bit (summary_of bitmap)
 unfoldable pub first_word : List ℕ → Option ℕ
 first_word bitmap =
     when (eqb (summary_of bitmap) 0)
-    (λ _. none)
+    (λ _. None)
     (λ _.
     when (ltb (first_marked bitmap) words)
-    (λ _. when (eqb (word_at bitmap (first_marked bitmap)) 0) (λ _. none) (λ _. some (first_marked bitmap)))
-    (λ _. none))
+    (λ _. when (eqb (word_at bitmap (first_marked bitmap)) 0) (λ _. None) (λ _. Some (first_marked bitmap)))
+    (λ _. None))
+
+-- What stands of a word that the summary marks: it is one of the words, and neither it nor the summary is 0.
+pub record IsMarked (bitmap : List ℕ) (word : ℕ) : Type 0 where
+  pub below : word < words
+  pub word_positive : 0 < word_at bitmap word
+  pub summary_positive : 0 < summary_of bitmap
 
 -- The lowest number of the set, given its word; and what is left of the bitmap without it: a word that becomes 0 leaves the summary.
 abbrev pub number_in : List ℕ → (word : ℕ) → ℕ
@@ -74,12 +77,12 @@ cleared_in bitmap word =
     (λ _. set bitmap word (without_lowest (word_at bitmap word)))
 
 abbrev pub lowest_of : List ℕ → Option ℕ → Option ℕ
-lowest_of bitmap none = none
-lowest_of bitmap (some word) = some (number_in bitmap word)
+lowest_of bitmap None = None
+lowest_of bitmap (Some word) = Some (number_in bitmap word)
 
 abbrev pub rest_of : List ℕ → Option ℕ → List ℕ
-rest_of bitmap none = bitmap
-rest_of bitmap (some word) = cleared_in bitmap word
+rest_of bitmap None = bitmap
+rest_of bitmap (Some word) = cleared_in bitmap word
 
 -- The lowest number of the set, and the set without it.
 unfoldable pub lowest_in : List ℕ → Option ℕ
@@ -90,18 +93,9 @@ unfoldable pub lowest_taken : List ℕ → List ℕ
 unfolding first_word
 lowest_taken bitmap = rest_of bitmap (first_word bitmap)
 
--- The lowest number as the code answers it.
-abbrev pub found : Option ℕ → Lowest
-found none = Empty
-found (some number) = Number number
-
-unfoldable pub found_in : List ℕ → Lowest
-unfolding lowest_in
-found_in bitmap = found (lowest_in bitmap)
-
 -- What taking the lowest number answers and leaves.
-pub record Taken (before after : List ℕ) (answer : Lowest) : Type 0 where
-  pub answers : answer ≡ found_in before
+pub record Taken (before after : List ℕ) (answer : Option ℕ) : Type 0 where
+  pub answers : answer ≡ lowest_in before
   pub leaves : after ≡ lowest_taken before
 
 -- A bitmap holds the numbers below `max_items` that pass a test. Its laws are in proofs/Holding.antt.

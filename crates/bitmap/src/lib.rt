@@ -2,8 +2,8 @@
 // So the lowest number is found from two words.
 #![tactic(auto)]
 
-ghost use Rattle.std.specs.Prelude.{◌≡◌};
-ghost use Rattle.bitmap.specs.Bitmaps.{inserted, lowest_bit, Taken};
+ghost use Rattle.std.specs.Prelude.{◌≡◌, IfSome};
+ghost use Rattle.bitmap.specs.Bitmaps.{first_word, inserted, lowest_bit, IsMarked, Taken};
 
 use model::ITEMS;
 
@@ -18,60 +18,47 @@ pub const BITMAP: usize = WORDS + 1;
 
 pub type Bitmap = [u64; BITMAP];
 
-// The lowest number of a set, if there is one.
-#[derive(Clone, Copy)]
-pub enum Lowest {
-    Number(u16),
-    Empty,
-}
-
 // The set with a number more. A number that no bit stands for changes nothing.
 pub fn insert(bitmap: &mut Bitmap, number: u16)
     ensures { bitmap.new ≡ inserted bitmap.old number }
 {
-    let n = number as usize;
+    let n = usize::from(number);
     if n < ITEMS {
-        let word = n / BITS;
-        bitmap[word] = bitmap[word] | (1 << (n % BITS));
-        bitmap[SUMMARY] = bitmap[SUMMARY] | (1 << word);
+        bitmap[n / BITS] |= 1 << (n % BITS);
+        bitmap[SUMMARY] |= 1 << (n / BITS);
     }
 }
 
-// A count of bits, to index with.
-fn wide(count: u32) -> usize
-    ensures { result ≡ count }
-{
-    count as usize
-}
-
-// The place of a word's lowest bit.
+// The place of a word's lowest bit, 64 of a word with none.
 fn lowest_bit(word: u64) -> usize
     ensures { result ≡ lowest_bit word }
 {
-    wide(u64::trailing_zeros(word))
+    word.trailing_zeros() as usize
 }
 
-// Takes the lowest number out of the set. A word that becomes 0 leaves the summary.
-pub fn take_lowest(bitmap: &mut Bitmap) -> Lowest
+// The first word that the summary marks, if it is not 0.
+fn first_word(bitmap: &Bitmap) -> Option<usize>
+    ensures is { result ≡ first_word bitmap.now }
+    ensures marks { IfSome result (IsMarked bitmap.now) }
+{
+    let word = lowest_bit(bitmap[SUMMARY]);
+    if word < WORDS && bitmap[word] != 0 {
+        Some(word)
+    } else {
+        None
+    }
+}
+
+// Takes the lowest number out of the set, if there is one. A word that becomes 0 leaves the summary.
+pub fn take_lowest(bitmap: &mut Bitmap) -> Option<u16>
     ensures { Taken bitmap.old bitmap.new result }
 {
-    let summary = bitmap[SUMMARY];
-    if summary == 0 {
-        return Lowest::Empty;
-    }
-    let word = lowest_bit(summary);
-    if word >= WORDS {
-        return Lowest::Empty;
-    }
+    let word = first_word(bitmap)?;
     let bits = bitmap[word];
-    if bits == 0 {
-        return Lowest::Empty;
-    }
-    let number = word * BITS + lowest_bit(bits);
     let rest = bits & (bits - 1);
     bitmap[word] = rest;
     if rest == 0 {
-        bitmap[SUMMARY] = summary & (summary - 1);
+        bitmap[SUMMARY] &= bitmap[SUMMARY] - 1;
     }
-    Lowest::Number(number as u16)
+    Some((word * BITS + lowest_bit(bits)) as u16)
 }

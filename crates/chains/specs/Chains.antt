@@ -1,6 +1,11 @@
 -- Lists by key through one list of links. Members and heads are named by their number plus 1, and 0 names none.
-use Rattle.std.specs.Prelude.{ℕ, zero, suc, ◌-◌, ◌≤◌, ◌<◌, ◌≡◌, Bool, ◌&&◌, List, [], ◌∷◌, ltb, length, get_or, set}
+use Rattle.std.specs.Prelude.{ℕ, zero, suc, ◌-◌, ◌≤◌, ◌<◌, ◌≡◌, Bool, ◌&&◌, List, [], ◌∷◌, ltb, length, get_or, set, Option, Some, None}
 use Rattle.model.specs.Choice.{when}
+
+-- The place of a member's link. The name 0 has none.
+abbrev pub slot_of : (member : ℕ) → Option ℕ
+slot_of zero = None
+slot_of (suc slot) = Some slot
 
 -- The lists have room for the key and for the member.
 abbrev pub room : (heads links : List ℕ) → (key member : ℕ) → Bool

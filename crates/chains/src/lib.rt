@@ -3,21 +3,25 @@
 #![tactic(auto)]
 
 ghost use Rattle.std.specs.Prelude.{◌≡◌};
-ghost use Rattle.chains.specs.Chains.{Pushed, older_in};
+ghost use Rattle.chains.specs.Chains.{Pushed, older_in, slot_of};
+
+// The place of a member's link. The name 0 has none.
+fn slot(member: u16) -> Option<usize>
+    ensures { result ≡ slot_of member }
+{
+    member.checked_sub(1).map(usize::from)
+}
 
 // Puts a member before the others of its key's list. Where the arrays have no room for the key or the member nothing changes.
 pub fn push(heads: &mut [u16], links: &mut [u16], key: usize, member: u16)
     ensures { Pushed heads.old links.old heads.new links.new key member }
 {
-    if member == 0 {
+    let Some(slot) = slot(member) else {
         return;
-    }
-    let slot = member as usize - 1;
-    if key < heads.len() {
-        if slot < links.len() {
-            links[slot] = heads[key];
-            heads[key] = member;
-        }
+    };
+    if key < heads.len() && slot < links.len() {
+        links[slot] = heads[key];
+        heads[key] = member;
     }
 }
 
@@ -25,15 +29,11 @@ pub fn push(heads: &mut [u16], links: &mut [u16], key: usize, member: u16)
 pub fn older(links: &[u16], member: u16) -> u16
     ensures { result ≡ older_in links.now member }
 {
-    if member == 0 {
+    let Some(slot) = slot(member) else {
         return 0;
+    };
+    match links.get(slot) {
+        Some(&below) if below < member => below,
+        _ => 0,
     }
-    let slot = member as usize - 1;
-    if slot < links.len() {
-        let below = links[slot];
-        if below < member {
-            return below;
-        }
-    }
-    0
 }

@@ -4,12 +4,11 @@ use mathlib.Core.Path.{◌≡◌}
 use mathlib.Core.List.{List}
 use Rattle.model.specs.declared.Header.{Header}
 use Rattle.model.specs.declared.Refusal.{Refusal}
-use Rattle.model.specs.Refusals.{Result}
+use Rattle.model.specs.Refusals.{Result, Ok, Err}
 use Rattle.model.specs.Checks.{Verdicts, check_result}
 use Rattle.memory.specs.Tables.{Table, zeros}
-use Rattle.replay.specs.declared.Acceptance as Acceptance
-use Rattle.replay.specs.declared.Acceptance.{Acceptance}
-use Rattle.replay.specs.Handed.{lent, HandsOver}
+use Rattle.replay.specs.declared.Accepted as replayed
+use Rattle.replay.specs.Handed.{Acceptance, lent, HandsOver}
 use Rattle.replay.proofs.Accepting.{accept_refused, accept_found}
 use Rattle.checker.specs.declared.conclusion.Room.{Room}
 use Rattle.checker.specs.declared.conclusion.Concluded.{Concluded}
@@ -30,14 +29,14 @@ module _ (program start recorded : List ℕ) (room : Room) {cells after trail : 
   abbrev Ends : Concluded → Type 0
   Ends = Concludes (check_result program start recorded room.groups room.cells) room after
 
-  pub ends_refused : {x : Refusal} → r ≡ Acceptance.TheVariants.Refused x → {k : Concluded} → k ≡ refused_with x → Ends k
+  pub ends_refused : {x : Refusal} → r ≡ Err x → {k : Concluded} → k ≡ refused_with x → Ends k
   ends_refused found e =
       rw e
       (concludes_refused program start recorded room after
       (replay_refused program start recorded room (accept_refused handed found)))
 
-  pub ends_accepted : {header : Header} {items groups : ℕ} → r ≡ Acceptance.TheVariants.Accepted header items groups → {k : Concluded} →
-      k ≡ accepted_with room header groups (verdict_told groups items trail) → Ends k
+  pub ends_accepted : {run : replayed.Accepted} → r ≡ Ok run → {k : Concluded} →
+      k ≡ accepted_with room run.header run.groups (verdict_told run.groups run.items trail) → Ends k
   ends_accepted found e =
       let known = accept_found handed found in
       rw e

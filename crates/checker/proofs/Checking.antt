@@ -5,14 +5,12 @@ use mathlib.Core.List.{List}
 use native.Mathlib.Omega.{arith}
 use lib.ListN.{length, replicate}
 use Rattle.model.specs.Limits.{max_items}
-use Rattle.model.specs.Refusals.{Result, ok, refused}
+use Rattle.model.specs.Refusals.{Result, Ok, Err}
 use Rattle.model.specs.Bytes.{AreBytes}
 use Rattle.model.specs.Checks.{Verdicts, Outcome, fill, entry_bytes, outcome, outcome_bytes, check_result, check_in, check_bytes_in}
-use Rattle.model.proofs.Laws.{when_true}
 use Rattle.memory.specs.Tables.{Table}
 use Rattle.lists.specs.Written.{numbers_written, words_written, cells_listed, cells_written, cell_words_written, CellsFit}
-use Rattle.lists.proofs.Room.{true_cells_fit}
-use Rattle.lists.proofs.Results.{groups_written, group_words_written}
+use Rattle.lists.proofs.Results.{groups_written, group_words_written, cells_written_lem, cell_words_written_lem}
 use Rattle.demands.specs.Entries.{Form, numbers, bytes}
 use Rattle.demands.specs.Demands.{MeetsDemands}
 use Rattle.demands.proofs.Entries.{written, capacity}
@@ -39,9 +37,9 @@ groups_into_lem bytes = group_words_written
 
 cells_into_lem : (form : Form) (list : List ℕ) (cells : Table) (ranks width : ℕ) → CellsFit (capacity form list) ranks width →
     cells_into form list cells ranks width ≡ fill (written form (cells_listed cells ranks width)) list
-unfolding capacity cells_written cell_words_written
-cells_into_lem numbers list cells ranks width fit = when_true _ _ (true_cells_fit (length list) ranks width fit)
-cells_into_lem bytes list cells ranks width fit = when_true _ _ (true_cells_fit _ ranks width fit)
+unfolding capacity
+cells_into_lem numbers = cells_written_lem
+cells_into_lem bytes = cell_words_written_lem
 
 -- The definition's outcome, by its result.
 abbrev outcome_of : Form → (order cells : List ℕ) → Result Verdicts → Outcome
@@ -60,10 +58,10 @@ result_defined bytes program start recorded order cells = refl
 filled_outcome : (form : Form) (order cells : List ℕ) (m : Result Verdicts) →
     answering (answer_in m) (fill (written form (listed_in m)) order) (fill (written form (cells_in m)) cells) ≡ outcome_of form order cells m
 unfolding outcome outcome_bytes fill entry_bytes
-filled_outcome numbers order cells (ok v) = refl
-filled_outcome numbers order cells (refused r) = refl
-filled_outcome bytes order cells (ok v) = refl
-filled_outcome bytes order cells (refused r) = refl
+filled_outcome numbers order cells (Ok v) = refl
+filled_outcome numbers order cells (Err r) = refl
+filled_outcome bytes order cells (Ok v) = refl
+filled_outcome bytes order cells (Err r) = refl
 
 definition_meets : (form : Form) (program start recorded order cells : List ℕ) → AreBytes recorded →
     MeetsDemands form program start recorded order cells (definition form program start recorded order cells)

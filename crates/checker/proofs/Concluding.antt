@@ -1,33 +1,30 @@
 -- What is concluded is the definition's result. A refusal lists nothing. The verdict on what the trail of an accepted record tells is the verdict on
 -- its run, it lists no more groups than there are, and the table of cells holds the run's last cells.
 use Prim.Native.Nat.{ℕ}
-use mathlib.Core.Path.{◌≡◌, refl, ap, ◌∙◌}
+use mathlib.Core.Path.{◌≡◌, refl}
 use mathlib.Core.Bool.{Bool, true, false}
 use mathlib.Core.List.{List}
 use native.Mathlib.Omega.{arith}
 use lib.Dec.{leb}
 use lib.ListN.{length}
 use borrow.Author.Tests.{leb-true}
-use Rattle.model.specs.declared.Answer.{Answer}
 use Rattle.model.specs.declared.Header.{Header}
 use Rattle.model.specs.declared.Refusal.{Refusal}
-use Rattle.model.specs.Refusals.{Result, ok, refused, order_too_short, memory_too_short}
-use Rattle.model.specs.Orders.{Verdict}
-use Rattle.model.specs.Checks.{Accepted, accept, verdict_on, last_cells, listed, Verdicts, check_result_in, check_result}
+use Rattle.model.specs.Refusals.{Result, Ok, Err, order_too_short, memory_too_short}
+use Rattle.model.specs.Orders.{Verdict, ordered, cyclic}
+use Rattle.model.specs.Checks.{Accepted, accept, verdict_on, last_cells, Verdicts, check_result_in, check_result, Answer}
 use Rattle.model.proofs.Laws.{decided}
 use Rattle.record_facts.proofs.Bounds.{accepted_bounds}
 use Rattle.memory.specs.Tables.{Table, cells_size, number_at}
 use Rattle.memory.specs.Made.{table_of}
 use Rattle.memory.proofs.Filled.{made_holds}
-use Rattle.graph.specs.Edges.{group_list}
 use Rattle.lists.proofs.Ranks.{rank_none}
 use Rattle.lists.proofs.Results.{cells_listed_lem}
 use Rattle.trails.specs.Trails.{trail_of}
 use Rattle.happens_before.proofs.Accepted.{accepted_tellable}
 use Rattle.verdicts.specs.declared.Judged.{Judged}
 use Rattle.verdicts.specs.Judged as verdicts
-use Rattle.verdicts.specs.Judged.{answer_of}
-use Rattle.verdicts.proofs.Answers.{answer_is}
+use Rattle.verdicts.specs.Judged.{count_of}
 use Rattle.judging.specs.Told.{verdict_told}
 use Rattle.judging.proofs.Accepted.{verdict_told_lem, verdict_lists}
 use Rattle.demands.specs.Demands.{groups_of, cells_of}
@@ -39,20 +36,18 @@ use Rattle.checker.specs.Concluded.{refused_with, judged_as, accepted_with, Conc
 abbrev with_groups : (ranks width : ℕ) → (list : List ℕ) → (count : ℕ) → Answer → Concluded
 with_groups ranks width list count answer = record { answer = answer; count = count; groups = list; ranks = ranks; width = width }
 
-pub concludes_verdict : (v : Verdict) (ranks width : ℕ) {judged : Judged} {answer : Answer} → judged ≡ verdicts.judged_as v →
-    answer ≡ answer_of judged.cyclic judged.count →
-    with_groups ranks width judged.groups judged.count answer ≡ judged_as v ranks width
-concludes_verdict v ranks width {judged} judged_is answers =
-    ap (with_groups ranks width judged.groups judged.count) answers
-    ∙ ap (λ (j : Judged). with_groups ranks width j.groups j.count (answer_of j.cyclic j.count)) judged_is
-    ∙ ap (with_groups ranks width (group_list (listed v)) (length (listed v))) (answer_is v)
+pub concludes_verdict : (v : Verdict) (ranks width : ℕ) {judged : Judged} {answer : Answer} {count : ℕ} → judged ≡ verdicts.judged_as v →
+    answer ≡ Ok judged.verdict → count ≡ count_of judged.verdict →
+    with_groups ranks width judged.groups count answer ≡ judged_as v ranks width
+concludes_verdict (ordered groups) ranks width judged_is answers counts = rw (answers, counts, judged_is)
+concludes_verdict (cyclic groups) ranks width judged_is answers counts = rw (answers, counts, judged_is)
 
 module _ (program start recorded : List ℕ) (room : Room) where
   abbrev result : Result Verdicts
   result = check_result program start recorded room.groups room.cells
 
   -- A refusal.
-  pub concludes_refused : (cells : Table) {r : Refusal} → result ≡ refused r → Concludes result room cells (refused_with r)
+  pub concludes_refused : (cells : Table) {r : Refusal} → result ≡ Err r → Concludes result room cells (refused_with r)
   concludes_refused cells is =
       rw is
       (record {
@@ -64,12 +59,12 @@ module _ (program start recorded : List ℕ) (room : Room) where
         cells_fit = record { few_ranks = omega arith; few_cells = omega arith; room = omega arith };
       })
 
-  pub replay_refused : {r : Refusal} → accept program start recorded ≡ refused r → result ≡ refused r
+  pub replay_refused : {r : Refusal} → accept program start recorded ≡ Err r → result ≡ Err r
   unfolding check_result_in
   replay_refused h = rw h
 
   -- An accepted record.
-  module _ (a : Accepted) (accepted : accept program start recorded ≡ ok a) where
+  module _ (a : Accepted) (accepted : accept program start recorded ≡ Ok a) where
     abbrev header : Header
     header = a.program.header
 
@@ -79,15 +74,15 @@ module _ (program start recorded : List ℕ) (room : Room) where
     abbrev cells_fit : Bool
     cells_fit = leb (cells_of a) room.cells
 
-    order_short : order_fits ≡ false → result ≡ refused (record { number = order_too_short; place = groups_of a })
+    order_short : order_fits ≡ false → result ≡ Err (record { number = order_too_short; place = groups_of a })
     unfolding check_result_in
     order_short t = rw (accepted, t)
 
-    cells_short : order_fits ≡ true → cells_fit ≡ false → result ≡ refused (record { number = memory_too_short; place = cells_of a })
+    cells_short : order_fits ≡ true → cells_fit ≡ false → result ≡ Err (record { number = memory_too_short; place = cells_of a })
     unfolding check_result_in
     cells_short t u = rw (accepted, t, u)
 
-    answerable : order_fits ≡ true → cells_fit ≡ true → result ≡ ok (record { verdict = verdict_on a.run; cells = last_cells a })
+    answerable : order_fits ≡ true → cells_fit ≡ true → result ≡ Ok (record { verdict = verdict_on a.run; cells = last_cells a })
     unfolding check_result_in
     answerable t u = rw (accepted, t, u)
 

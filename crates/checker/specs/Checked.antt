@@ -1,7 +1,6 @@
 -- What the whole check answers and leaves in the lent lists: the definition's outcome, which meets the three demands.
 use Rattle.std.specs.Prelude.{ℕ, ◌≡◌, List}
-use Rattle.model.specs.declared.Answer.{Answer}
-use Rattle.model.specs.Checks.{Outcome, check, check_bytes}
+use Rattle.model.specs.Checks.{Outcome, check, check_bytes, Answer}
 use Rattle.demands.specs.Entries.{Form, numbers, bytes}
 use Rattle.demands.specs.Demands.{MeetsDemands}
 

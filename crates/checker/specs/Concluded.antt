@@ -1,13 +1,11 @@
 -- What is to be answered and written, by the definition's result, before anything is written.
 use Rattle.std.specs.Prelude.{ℕ, ◌*◌, ◌≤◌, ◌≡◌, List, [], leb, length}
-use Rattle.model.specs.declared.Answer.{Answer}
-use Rattle.model.specs.declared.Answer.TheVariants.{Refused}
 use Rattle.model.specs.declared.Header.{Header}
 use Rattle.model.specs.declared.Refusal.{Refusal}
-use Rattle.model.specs.Refusals.{Result, ok, refused, order_too_short, memory_too_short}
+use Rattle.model.specs.Refusals.{Result, Ok, Err, order_too_short, memory_too_short}
 use Rattle.model.specs.Choice.{when}
 use Rattle.model.specs.Orders.{Verdict}
-use Rattle.model.specs.Checks.{Verdicts, listed, answered}
+use Rattle.model.specs.Checks.{Verdicts, listed, answered, Answer}
 use Rattle.memory.specs.Tables.{Table}
 use Rattle.graph.specs.Edges.{group_list}
 use Rattle.lists.specs.Written.{cells_listed, CellsFit}
@@ -21,7 +19,7 @@ concluded_as answer groups ranks width =
 
 -- A refusal lists nothing; a verdict its groups, and the program's cells.
 abbrev pub refused_with : Refusal → Concluded
-refused_with r = concluded_as (Refused r) [] 0 0
+refused_with r = concluded_as (Err r) [] 0 0
 
 abbrev pub judged_as : Verdict → (ranks width : ℕ) → Concluded
 judged_as v = concluded_as (answered v) (listed v)
@@ -38,16 +36,16 @@ accepted_with room header groups v =
 
 -- What is answered, and what is to be written.
 abbrev pub answer_in : Result Verdicts → Answer
-answer_in (ok v) = answered v.verdict
-answer_in (refused r) = Refused r
+answer_in (Ok v) = answered v.verdict
+answer_in (Err r) = Err r
 
 abbrev pub listed_in : Result Verdicts → List ℕ
-listed_in (ok v) = listed v.verdict
-listed_in (refused r) = []
+listed_in (Ok v) = listed v.verdict
+listed_in (Err r) = []
 
 abbrev pub cells_in : Result Verdicts → List ℕ
-cells_in (ok v) = v.cells
-cells_in (refused r) = []
+cells_in (Ok v) = v.cells
+cells_in (Err r) = []
 
 -- A conclusion and a table of cells hold all of that, and there is room for it.
 pub record Concludes (result : Result Verdicts) (room : Room) (cells : Table) (r : Concluded) : Type 0 where

@@ -8,8 +8,7 @@ use graph::Groups;
 use judging::judge;
 use model::refusals::{MEMORY_TOO_SHORT, ORDER_TOO_SHORT};
 use model::{Answer, Cells, Header, ITEMS, Refusal, TOLD, Trail};
-use replay::{Acceptance, replay};
-use verdicts::answer_of;
+use replay::replay;
 
 // How many entries the lent lists have, for groups and for cells.
 #[derive(Clone, Copy)]
@@ -33,7 +32,7 @@ fn refused(refusal: Refusal) -> Concluded
     ensures { result ≡ refused_with refusal }
 {
     Concluded {
-        answer: Answer::Refused(refusal),
+        answer: Err(refusal),
         count: 0,
         groups: [0; ITEMS],
         ranks: 0,
@@ -48,8 +47,8 @@ fn verdict_on(trail: &Trail, items: usize, groups: u16, header: Header) -> Concl
     let judged = judge(trail, items, groups);
     let listed = judged.groups;
     Concluded {
-        answer: answer_of(judged.cyclic, judged.count),
-        count: judged.count,
+        answer: judged.answer(),
+        count: judged.count(),
         groups: listed,
         ranks: header.ranks,
         width: header.cells,
@@ -91,11 +90,7 @@ pub fn conclude(
 {
     let mut trail = [[0; TOLD]; ITEMS];
     match replay(program, start, recorded, cells, &mut trail) {
-        Acceptance::Refused(refusal) => refused(refusal),
-        Acceptance::Accepted {
-            header,
-            items,
-            groups,
-        } => accepted(room, header, items, groups, &trail),
+        Err(refusal) => refused(refusal),
+        Ok(run) => accepted(room, run.header, run.items, run.groups, &trail),
     }
 }

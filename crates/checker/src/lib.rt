@@ -3,12 +3,23 @@
 
 mod conclusion;
 
+ghost use Rattle.std.specs.Prelude.{◌≡◌};
 ghost use Rattle.demands.specs.Entries.{numbers, bytes};
+ghost use Rattle.lists.specs.Written.{entries_written, cell_entries_written};
 ghost use Rattle.checker.specs.Checked.{Checked, answering};
 
-use crate::conclusion::{Room, conclude};
-use lists::{write_cell_words, write_cells, write_numbers, write_words};
-use model::{Answer, CELLS, RANKS};
+use crate::conclusion::{Concluded, Room, conclude};
+use lists::{Element, write, write_cells};
+use model::{Answer, CELLS, Cells, RANKS};
+
+// Writes the groups and the cells that are listed, in either form of lists.
+fn write_lists<T: Element>(concluded: &Concluded, last: &Cells, order: &mut [T], cells: &mut [T])
+    ensures groups { order.new ≡ entries_written T.WIDTH T.shown order.old 0 concluded.now.groups concluded.now.count }
+    ensures cells { cells.new ≡ cell_entries_written T.WIDTH T.shown cells.old last.now concluded.now.ranks concluded.now.width }
+{
+    write(order, 0, &concluded.groups, concluded.count);
+    write_cells(cells, last, concluded.ranks, concluded.width);
+}
 
 // Checks a record of a program from a start. An order or a ring fills the first entries of `order`, and the last cell values, rank 1 first, those of
 // `cells`; the other entries are untouched. On a refusal nothing lent changes.
@@ -28,9 +39,7 @@ pub fn check(
         cells: cells.len(),
     };
     let concluded = conclude(program, start, recorded, room, &mut last);
-    let groups = concluded.groups;
-    write_numbers(order, 0, &groups, concluded.count);
-    write_cells(cells, &last, concluded.ranks, concluded.width);
+    write_lists(&concluded, &last, order, cells);
     concluded.answer
 }
 
@@ -51,8 +60,6 @@ pub fn check_bytes(
         cells: cells.len() / 2,
     };
     let concluded = conclude(program, start, recorded, room, &mut last);
-    let groups = concluded.groups;
-    write_words(order, 0, &groups, concluded.count);
-    write_cell_words(cells, &last, concluded.ranks, concluded.width);
+    write_lists(&concluded, &last, order, cells);
     concluded.answer
 }

@@ -1,9 +1,9 @@
 -- A command item on arrays that stand for a state, against the definition's.
+use Rattle.std.specs.Prelude.{Some}
 use Prim.Native.Nat.{ℕ, ◌+◌, ◌<◌}
 use mathlib.Core.Path.{◌≡◌, ap, ◌∙◌}
 use mathlib.Core.Bool.{◌&&◌}
 use mathlib.Core.List.{List}
-use mathlib.Core.Option.{some}
 use lib.Dec.{eqb}
 use Rattle.model.specs.declared.Item.{Item}
 use Rattle.model.specs.Limits.{max_items}
@@ -26,7 +26,7 @@ use Rattle.machine.specs.Arrays.{Memory, cells_in}
 use Rattle.machine.specs.Standing.{Holds, Standing, Follows}
 use Rattle.machine.proofs.Agreement.{Together, together_test, together_value, together_agreed, counted, same_opened, opened_few}
 use Rattle.machine.proofs.Held.{holds_moved}
-use Rattle.commands.specs.Commands.{moved_on, action_on, transition_on, read_on, command_on}
+use Rattle.commands.specs.Commands.{environment_in, moved_on, action_on, transition_on, read_on, command_on}
 use Rattle.commands.proofs.Performed.{performed, same_access_lem, access_placed, control_kept}
 use Rattle.commands.proofs.OwnRegisters.{own_registers}
 
@@ -74,18 +74,18 @@ module _ (P : Program) (m : Memory) (p : Progress) (s : Replay) (i : Item) (stan
     own = row_at registers_size m.registers i.rank
 
     operands : action P i.rank (s.machine.registers i.rank) p.at t.command
-        ≡ action_by P.header i.rank p.at (command_of P.header i.rank own t.command)
+        ≡ action_by P.header i.rank p.at (command_of (environment_in P.header i.rank m) t.command)
     unfolding own
     operands = rw (own_registers stands.holds.registers i.rank r) (action_by_lem P i.rank p.at own t.command)
 
     pub transition_together :
-        Together p.at m (take_transition P s p.at i (some t)) (command_on bytes start P.header i p m)
+        Together p.at m (take_transition P s p.at i (Some t)) (command_on bytes start P.header i p m)
     unfolding take_transition read_on transition_on own
     transition_together =
         rw (read, operands, stands.holds.controls.same i.rank r, kind_in_lem P i.rank p.at own t.command)
         (together_test p.at m
         (eqb t.source (control_at m.control i.rank) && same_kind (kind_of t.command) i.kind) wrong_transition _ _
         (λ _.
-        together_value p.at m (action_by P.header i.rank p.at (command_of P.header i.rank own t.command)) _ _
+        together_value p.at m (action_by P.header i.rank p.at (command_of (environment_in P.header i.rank m) t.command)) _ _
         (λ a e. action_together t.target a (action_fits P i.rank p.at own loaded t.command
         (register_held bytes P.header loaded.registers_fit start read) e))))

@@ -1,5 +1,4 @@
--- The code against the commands on arrays (`Outcomes`), and these against the definition's, in the order of the argument.
-pub mod Outcomes
+-- The commands on arrays against the definition's, in the order of the argument.
 pub mod Performed
 pub mod OwnRegisters
 pub mod CommandSteps

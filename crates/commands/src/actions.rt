@@ -1,85 +1,60 @@
 // What an action accesses, and what it does to the arrays.
-ghost use Rattle.std.specs.Prelude.{◌≡◌, List, ℕ};
+ghost use Rattle.std.specs.Prelude.{◌≡◌};
 ghost use Rattle.model.specs.Replay.{access_of};
 ghost use Rattle.memory.specs.Tables.{cells_size, number_at};
-ghost use Rattle.items.specs.Accesses.{access_in};
 ghost use Rattle.machine.specs.Arrays.{memory};
-ghost use Rattle.operands.specs.Operands.{action_in};
 ghost use Rattle.commands.specs.Commands.{perform_on};
 
-use entries::{Pool, Request};
-use items::access::Accessed;
-use links::Ends;
+use entries::Request;
+use machine::Machine;
 use memory::{cell_at, set_cell, set_register};
-use model::{Address, Cells, Registers};
-use operands::Action;
+use model::{Access, Action, Address, Cells};
 use queues::transfers::append;
 
 // "Loads .. read their cell; stores .. write theirs."
-pub fn access_of(action: Action, rank: u16, cells: &Cells) -> Accessed
-    ensures { access_in result ≡ access_of rank (action_in action) (number_at cells_size cells.now) }
+#[tactic(auto, unfolding(model::specs::Replay::access_of))]
+pub fn access_of(action: Action, rank: u16, cells: &Cells) -> Option<Access>
+    ensures { result ≡ access_of rank action (number_at cells_size cells.now) }
 {
     match action {
-        Action::Loads { register: _, cell } => {
-            let place = Address { rank, cell };
-            let value = cell_at(cells, place);
-            Accessed::Cell {
+        Action::Loads { cell, .. } => {
+            let address = Address { rank, cell };
+            Some(Access {
                 writes: false,
-                place,
-                value,
-            }
+                address,
+                value: cell_at(cells, address),
+            })
         }
-        Action::Stores { cell, value } => {
-            let place = Address { rank, cell };
-            Accessed::Cell {
-                writes: true,
-                place,
-                value,
-            }
-        }
-        Action::Assigns {
-            register: _,
-            value: _,
-        } => Accessed::Nothing,
-        Action::Passes => Accessed::Nothing,
-        Action::Issues {
-            queue: _,
-            remote: _,
-            source: _,
-            destination: _,
-        } => Accessed::Nothing,
-        Action::Meets => Accessed::Nothing,
+        Action::Stores { cell, value } => Some(Access {
+            writes: true,
+            address: Address { rank, cell },
+            value,
+        }),
+        _ => None,
     }
 }
 
 // The action of the command item `at`, whose group is `group`.
+#[tactic(auto, unfolding(crate::specs::Commands::perform_on))]
 pub fn perform(
     action: Action,
     rank: u16,
     at: usize,
     group: u16,
-    registers: &mut Registers,
+    machine: &mut Machine,
     cells: &mut Cells,
-    pool: &mut Pool,
-    ends: &mut Ends,
 )
-    ensures { (control : List ℕ) →
-        memory control registers.new cells.new pool.new ends.new
-        ≡ perform_on rank at group (action_in action)
-        (memory control registers.old cells.old pool.old ends.old) }
+    ensures { memory machine.new cells.new ≡ perform_on rank at group action (memory machine.old cells.old) }
 {
     match action {
         Action::Loads { register, cell } => {
-            let place = Address { rank, cell };
-            let value = cell_at(cells, place);
-            set_register(registers, rank, register, value);
+            let value = cell_at(cells, Address { rank, cell });
+            set_register(&mut machine.registers, rank, register, value);
         }
-        Action::Stores { cell, value } => {
-            let place = Address { rank, cell };
-            set_cell(cells, place, value);
+        Action::Stores { cell, value } => set_cell(cells, Address { rank, cell }, value),
+        Action::Assigns { register, value } => {
+            set_register(&mut machine.registers, rank, register, value);
         }
-        Action::Assigns { register, value } => set_register(registers, rank, register, value),
-        Action::Passes => {}
         Action::Issues {
             queue,
             remote,
@@ -92,8 +67,8 @@ pub fn perform(
                 destination,
                 group,
             };
-            append(pool, ends, rank, queue, at, request);
+            append(&mut machine.queues, rank, queue, at, request);
         }
-        Action::Meets => {}
+        Action::Passes | Action::Meets => {}
     }
 }

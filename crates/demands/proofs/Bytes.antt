@@ -4,7 +4,7 @@ use mathlib.Core.Path.{◌≡◌, sym, ◌∙◌, subst}
 use mathlib.Core.List.{List}
 use mathlib.Core.Logic.{◌↔◌}
 use Rattle.model.specs.declared.Item.{Item}
-use Rattle.model.specs.Refusals.{ok}
+use Rattle.model.specs.Refusals.{Ok}
 use Rattle.model.specs.Choice.{Each}
 use Rattle.model.specs.Bytes.{AreBytes}
 use Rattle.model.specs.Programs.{Program}
@@ -67,8 +67,8 @@ pub arrows_are_happens_before : (events : List Event) (g h : ℕ) → (g ⟶ h �
 arrows_are_happens_before = edges_agree
 
 -- "A group is a read or write with its popa and popb": those of its transfer, first in, first out.
-pub pops_with_their_transfers : (program start recorded : List ℕ) (a : Accepted) → AreBytes recorded → accept program start recorded ≡ ok a →
-    (items : List Item) → read_record a.program.header recorded ≡ ok items → MarksAgree a.program a.readings items a.run
+pub pops_with_their_transfers : (program start recorded : List ℕ) (a : Accepted) → AreBytes recorded → accept program start recorded ≡ Ok a →
+    (items : List Item) → read_record a.program.header recorded ≡ Ok items → MarksAgree a.program a.readings items a.run
 pops_with_their_transfers program start recorded a bytes accepted items read =
     let p = accepted_parts program start recorded a accepted in
     let same : p.items ≡ items = ok_injective (sym p.record_read_lem ∙ read) in
@@ -77,7 +77,7 @@ pops_with_their_transfers program start recorded a bytes accepted items read =
     (replay_taken a.program a.readings p.items p.replayed).0)
 
 -- An accepted record of a readable program.
-module _ (program start recorded : List ℕ) (a : Accepted) (bytes : AreBytes recorded) (accepted : accept program start recorded ≡ ok a) where
+module _ (program start recorded : List ℕ) (a : Accepted) (bytes : AreBytes recorded) (accepted : accept program start recorded ≡ Ok a) where
   parts : AcceptedParts program start recorded a
   parts = accepted_parts program start recorded a accepted
 

@@ -3,7 +3,7 @@
 use Prim.Native.Nat.{ℕ}
 use mathlib.Core.Path.{◌≡◌, refl, subst}
 use mathlib.Core.List.{List}
-use Rattle.model.specs.Refusals.{Result, ok, refused}
+use Rattle.model.specs.Refusals.{Result, Ok, Err}
 use Rattle.model.specs.Bytes.{AreBytes}
 use Rattle.model.specs.Checks.{Verdicts, outcome, check_in, check, outcome_bytes, check_bytes_in, check_bytes}
 use Rattle.demands.specs.Entries.{numbers, bytes}
@@ -14,13 +14,13 @@ use Rattle.demands.proofs.Outcomes.{outcome_in, result_in, outcome_meets}
 -- Both entries write as their form says.
 pub numbers_written_lem : (order cells : List ℕ) (m : Result Verdicts) → outcome_in numbers order cells m ≡ outcome order cells m
 unfolding outcome
-numbers_written_lem order cells (ok v) = refl
-numbers_written_lem order cells (refused r) = refl
+numbers_written_lem order cells (Ok v) = refl
+numbers_written_lem order cells (Err r) = refl
 
 pub bytes_written : (order cells : List ℕ) (m : Result Verdicts) → outcome_in bytes order cells m ≡ outcome_bytes order cells m
 unfolding outcome_bytes
-bytes_written order cells (ok v) = refl
-bytes_written order cells (refused r) = refl
+bytes_written order cells (Ok v) = refl
+bytes_written order cells (Err r) = refl
 
 module _ (program start recorded order cells : List ℕ) (are_bytes : AreBytes recorded) where
   -- The check with lists of 16-bit numbers.

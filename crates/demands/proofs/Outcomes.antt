@@ -1,21 +1,21 @@
 -- From the result of the check to its outcome. Where the record is accepted and both lists are long enough, the first entries of the lists are the
 -- verdict's groups and the last cells; anywhere else the result is a refusal, and the lists are as they were. Either way the demands are met.
+use Rattle.model.specs.declared.Verdict.TheVariants.{Order, Ring}
+use Rattle.std.specs.Prelude.{Some, slice_get}
 use Prim.Native.Nat.{ℕ, ◌-◌, ◌+◌, ◌*◌, ◌≤◌}
 use mathlib.Core.Path.{◌≡◌, refl, sym, ap, subst, ◌∙◌}
 use mathlib.Core.List.{List}
-use mathlib.Core.Option.{some}
 use native.Mathlib.Omega.{arith}
 use lib.Dec.{leb}
-use lib.ListN.{length, get_elem?}
+use lib.ListN.{length}
 use borrow.Author.Tests.{leb-true, le-leb}
-use Rattle.model.specs.declared.Answer.TheVariants.{Order, Ring, Refused}
 use Rattle.model.specs.declared.Refusal.{Refusal}
-use Rattle.model.specs.Refusals.{Result, ok, refused, order_too_short, memory_too_short}
+use Rattle.model.specs.Refusals.{Result, Ok, Err, order_too_short, memory_too_short}
 use Rattle.model.specs.Bytes.{AreBytes}
 use Rattle.model.specs.Rules.{Rank, Cell}
 use Rattle.model.specs.Orders.{Verdict, ordered, cyclic}
-use Rattle.model.specs.Checks.{accept, verdict_on, last_cells, Accepted, fill, Outcome, listed, answered, Verdicts, check_result_in, check_result}
-use Rattle.model.proofs.Laws.{bind_ok, required, ok_injective, refused≢ok, get_elem?_front}
+use Rattle.model.specs.Checks.{Answer, accept, verdict_on, last_cells, Accepted, fill, Outcome, listed, answered, Verdicts, check_result_in, check_result}
+use Rattle.model.proofs.Laws.{bind_ok, required, ok_injective, refused≢ok, slice_get_front}
 use Rattle.ordering.specs.Orders.{TopologicalOrder, ShortestRing}
 use Rattle.ordering.proofs.Orders.{cycle_length}
 use Rattle.serializability.specs.Claim.{Serializable}
@@ -32,8 +32,8 @@ abbrev pub result_in : Form → (program start recorded order cells : List ℕ) 
 result_in form program start recorded order cells = check_result program start recorded (capacity form order) (capacity form cells)
 
 abbrev pub outcome_in : Form → (order cells : List ℕ) → Result Verdicts → Outcome
-outcome_in form order cells (refused r) = record { answer = Refused r; order = order; cells = cells }
-outcome_in form order cells (ok v) =
+outcome_in form order cells (Err r) = record { answer = Err r; order = order; cells = cells }
+outcome_in form order cells (Ok v) =
     record {
       answer = answered v.verdict;
       order = fill (written form (listed v.verdict)) order;
@@ -41,15 +41,15 @@ outcome_in form order cells (ok v) =
     }
 
 -- A verdict's answer tells which verdict it is, and how many groups it lists.
-answered_ring : {n : ℕ} (v : Verdict) → answered v ≡ Ring n → (groups : List ℕ) × (v ≡ cyclic groups) × (length groups ≡ n)
+answered_ring : {n : ℕ} (v : Verdict) → answered v ≡ Ok (Ring n) → (groups : List ℕ) × (v ≡ cyclic groups) × (length groups ≡ n)
 answered_ring (ordered groups) h = let z : ◌≡◌ {A = ℕ} 0 1 = cc in absurd (omega arith)
 answered_ring (cyclic groups) h = (groups, refl, cc)
 
-answered_order : {n : ℕ} (v : Verdict) → answered v ≡ Order n → (groups : List ℕ) × (v ≡ ordered groups) × (length groups ≡ n)
+answered_order : {n : ℕ} (v : Verdict) → answered v ≡ Ok (Order n) → (groups : List ℕ) × (v ≡ ordered groups) × (length groups ≡ n)
 answered_order (ordered groups) h = (groups, refl, cc)
 answered_order (cyclic groups) h = let z : ◌≡◌ {A = ℕ} 0 1 = cc in absurd (omega arith)
 
-answered_not_refused : (v : Verdict) {r : Refusal} → ¬ (answered v ≡ Refused r)
+answered_not_refused : (v : Verdict) {r : Refusal} → ¬ (answered v ≡ Err r)
 answered_not_refused (ordered groups) h = let z : ◌≡◌ {A = ℕ} 0 1 = cc in omega arith
 answered_not_refused (cyclic groups) h = let z : ◌≡◌ {A = ℕ} 0 1 = cc in omega arith
 
@@ -63,11 +63,11 @@ count_listed (cyclic groups) = refl
 
 -- Where each cell's value stands in a list that is filled with the last cells.
 pub cell_read : (form : Form) (cells : List ℕ) (a : Accepted) (rank cell : ℕ) → Rank a.program rank → Cell a.program cell →
-    get_elem? (entries form (fill (written form (last_cells a)) cells)) ((rank - 1) * a.program.header.cells + cell) ≡
-    some (a.run.last.machine.cells rank cell)
+    slice_get (entries form (fill (written form (last_cells a)) cells)) ((rank - 1) * a.program.header.cells + cell) ≡
+    Some (a.run.last.machine.cells rank cell)
 cell_read form cells a rank cell r c =
     rw (filled_entries form (last_cells a) cells)
-    (get_elem?_front (last_cells a) _ ((rank - 1) * a.program.header.cells + cell) (last_cell_at a rank cell r c))
+    (slice_get_front (last_cells a) _ ((rank - 1) * a.program.header.cells + cell) (last_cell_at a rank cell r c))
 
 -- What is to be written of an accepted record.
 abbrev pub verdicts_of : Accepted → Verdicts
@@ -81,14 +81,14 @@ module _ (form : Form) (program start recorded order cells : List ℕ) where
   Given = Answerable form program start recorded order cells
 
   -- The result is a verdict exactly if the record is accepted and both lists are long enough.
-  pub given_result : (a : Accepted) → Given a → result ≡ ok (verdicts_of a)
+  pub given_result : (a : Accepted) → Given a → result ≡ Ok (verdicts_of a)
   unfolding check_result_in
   given_result a given =
       let o : groups_of a ≤ capacity form order = rw (entries_length form order) at given.order_fits_lem in
       let c : cells_of a ≤ capacity form cells = rw (entries_length form cells) at given.cells_fit in
       rw (given.accepted, le-leb (groups_of a) (capacity form order) o, le-leb (cells_of a) (capacity form cells) c)
 
-  result_given : (v : Verdicts) → result ≡ ok v → (a : Accepted) × Given a × (verdicts_of a ≡ v)
+  result_given : (v : Verdicts) → result ≡ Ok v → (a : Accepted) × Given a × (verdicts_of a ≡ v)
   unfolding check_result_in
   result_given v h =
       let (a, accepted, h₁) = bind_ok (accept program start recorded) _ h in
@@ -112,17 +112,17 @@ module _ (form : Form) (program start recorded order cells : List ℕ) where
         }
 
     -- A refusal: its number is in the table, and nothing was to be written.
-    module _ (r : Refusal) (is : result ≡ refused r) where
+    module _ (r : Refusal) (is : result ≡ Err r) where
       none_given : (a : Accepted) → ¬ Given a
       none_given a given = refused≢ok (sym is ∙ given_result a given)
 
-      refused_as : (s : Refusal) → Refused r ≡ Refused s → RefusedAs order cells (outcome_in form order cells (refused r)) s
+      refused_as : (s : Refusal) → ◌≡◌ {A = Answer} (Err r) (Err s) → RefusedAs order cells (outcome_in form order cells (Err r)) s
       refused_as s h =
           let same : r ≡ s = cc in
           let tabled = (check_tabled program start recorded (capacity form order) (capacity form cells)).row r is in
           rw (← same) (record { tabled = tabled; same_order = refl; same_cells = refl })
 
-      refusal_meets : MeetsDemands form program start recorded order cells (outcome_in form order cells (refused r))
+      refusal_meets : MeetsDemands form program start recorded order cells (outcome_in form order cells (Err r))
       refusal_meets =
           record {
             demand1 =
@@ -140,7 +140,7 @@ module _ (form : Form) (program start recorded order cells : List ℕ) where
     -- An accepted record, and both lists long enough.
     module _ (a : Accepted) (given : Given a) where
       abbrev filled : Outcome
-      filled = outcome_in form order cells (ok (verdicts_of a))
+      filled = outcome_in form order cells (Ok (verdicts_of a))
 
       -- What is known of its verdict.
       forward : (groups : List ℕ) → verdict_on a.run ≡ ordered groups → TopologicalOrder (groups_of a) (arrows_of a) groups
@@ -171,12 +171,12 @@ module _ (form : Form) (program start recorded order cells : List ℕ) where
       groups_read : (v : Verdict) {n : ℕ} → verdict_on a.run ≡ v → length (listed v) ≡ n → first_entries form n filled.order ≡ listed v
       groups_read v is count = rw (is, ← count) (filled_reads form (listed v) order)
 
-      ring_read : (n : ℕ) → filled.answer ≡ Ring n → IsRing a (first_entries form n filled.order) n
+      ring_read : (n : ℕ) → filled.answer ≡ Ok (Ring n) → IsRing a (first_entries form n filled.order) n
       ring_read n h =
           let (cycle, is, count) = answered_ring (verdict_on a.run) h in
           rw (groups_read (cyclic cycle) is count) (record { count = count; shortest = shortest cycle is })
 
-      order_read : (n : ℕ) → filled.answer ≡ Order n → IsOrder a (first_entries form n filled.order) n
+      order_read : (n : ℕ) → filled.answer ≡ Ok (Order n) → IsOrder a (first_entries form n filled.order) n
       order_read n h =
           let (groups, is, count) = answered_order (verdict_on a.run) h in
           let (run, serialization) = serial.order groups is in
@@ -216,7 +216,7 @@ module _ (form : Form) (program start recorded order cells : List ℕ) where
     outcome_meets = by_result result refl
       where
         by_result : (m : Result Verdicts) → result ≡ m → MeetsDemands form program start recorded order cells (outcome_in form order cells m)
-        by_result (refused r) is = refusal_meets r is
-        by_result (ok v) is =
+        by_result (Err r) is = refusal_meets r is
+        by_result (Ok v) is =
             let (a, given, same) = result_given v is in
-            subst (λ v. MeetsDemands form program start recorded order cells (outcome_in form order cells (ok v))) same (verdict_meets a given)
+            subst (λ v. MeetsDemands form program start recorded order cells (outcome_in form order cells (Ok v))) same (verdict_meets a given)

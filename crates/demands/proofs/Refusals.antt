@@ -1,15 +1,14 @@
 -- Every refusal has one of the check's numbers: what is refused by the whole is refused by a part.
+use Rattle.model.specs.declared.FormFault.TheVariants.{UnknownKind, WrongMap}
+use Rattle.std.specs.Prelude.{Option, Some, None, slice_get, Ok, Err}
 use Prim.Native.Nat.{ℕ, zero, suc, ◌+◌, ◌-◌, ◌*◌, ◌^◌}
 use mathlib.Core.Path.{◌≡◌, refl}
 use mathlib.Core.Bool.{Bool, true, ◌&&◌}
 use mathlib.Core.List.{List, [], ◌∷◌}
-use mathlib.Core.Option.{Option, some, none}
 use lib.Dec.{ltb, leb, eqb}
-use lib.ListN.{length, get_elem?}
+use lib.ListN.{length}
 use Rattle.model.specs.declared.Header.{Header}
 use Rattle.model.specs.declared.Item.{Item}
-use Rattle.model.specs.declared.ItemForm.{ItemForm}
-use Rattle.model.specs.declared.ItemForm.TheVariants.{Good, UnknownKind, WrongMap}
 use Rattle.model.specs.Limits.{map_size, max_value, max_tokens, short_transitions, max_transitions, long_count, max_items}
 use Rattle.model.specs.Refusals.{program_length, program_range, program_form, record_length, record_range, record_form, wrong_transition, operand_range}
 use Rattle.model.specs.Refusals.{assume_fails, empty_queue, access_differs, barrier_row, queues_left, order_too_short, memory_too_short, no_value, start_form}
@@ -21,7 +20,7 @@ use Rattle.model.specs.Expressions.{Expression, constant, Token, constant_token,
 use Rattle.model.specs.Expressions.{Counted, no_token_left, after_token, on_token, read_expression, expression}
 use Rattle.model.specs.Programs.{Program, Transition, Command, load, store, assign, assume, read, write, bar, kind_of, CommandForm, forms, judged_form}
 use Rattle.model.specs.Programs.{header_number, count_byte, transition_count, read_header_in, read_header, read_fields, read_transition, program_reader_in, read_program_in, read_program}
-use Rattle.model.specs.ItemForms.{item_form, judged_item_form}
+use Rattle.model.specs.ItemForms.{item_form, judged_item_form, ItemForm}
 use Rattle.model.specs.Records.{read_item_in, read_item, record_reader_in, read_record_in, read_record}
 use Rattle.model.specs.Machine.{Start, Request, Delivery, value_of, value, ranged, transfer, action}
 use Rattle.model.specs.StartBytes.{start_map, rank_reader, start_reader, read_start}
@@ -52,13 +51,13 @@ module _ (registers : ℕ) where
   token_faults : {operand : ℕ → Reader Counted} → ((left : ℕ) → Faults CheckRow (operand left)) → (left at : ℕ) (token : Option Token) →
       Faults CheckRow (on_token registers operand left at token)
   unfolding on_token after_token
-  token_faults operands left at (some constant_token) = bind_faults (word_faults program_length refl) λ value. pure_faults _
-  token_faults operands left at (some register_token) = bind_faults register_faults λ index. pure_faults _
-  token_faults operands left at (some own_rank_token) = pure_faults _
-  token_faults operands left at (some rank_count_token) = pure_faults _
-  token_faults operands left at (some (operator_token o)) =
+  token_faults operands left at (Some constant_token) = bind_faults (word_faults program_length refl) λ value. pure_faults _
+  token_faults operands left at (Some register_token) = bind_faults register_faults λ index. pure_faults _
+  token_faults operands left at (Some own_rank_token) = pure_faults _
+  token_faults operands left at (Some rank_count_token) = pure_faults _
+  token_faults operands left at (Some (operator_token o)) =
       bind_faults (operands left) λ a. bind_faults (operands a.left) λ b. pure_faults _
-  token_faults operands left at none = fault_faults program_form at refl
+  token_faults operands left at None = fault_faults program_form at refl
 
   tokens_fault : (depth left : ℕ) → Faults CheckRow (read_expression registers depth left)
   unfolding read_expression
@@ -85,8 +84,8 @@ module _ (registers : ℕ) where
 
 form_faults : (at map : ℕ) (form : Option CommandForm) → Faults CheckRow (judged_form at map form)
 unfolding judged_form
-form_faults at map none = fault_faults program_form (at + 1) refl
-form_faults at map (some form) =
+form_faults at map None = fault_faults program_form (at + 1) refl
+form_faults at map (Some form) =
     decided (eqb map form.map) (λ t. rw t (pure_faults form)) (λ t. rw t (fault_faults program_form at refl))
 
 below_faults : (limit : ℕ) → Faults CheckRow (judged (λ q. ltb q limit) program_range (byte program_length))
@@ -137,9 +136,9 @@ program_tabled bytes =
 -- The record.
 item_form_faults : (at : ℕ) (form : ItemForm) → Faults CheckRow (judged_item_form at form)
 unfolding judged_item_form
-item_form_faults at (Good kind) = pure_faults kind
-item_form_faults at UnknownKind = fault_faults record_form (at + 1) refl
-item_form_faults at WrongMap = fault_faults record_form at refl
+item_form_faults at (Ok kind) = pure_faults kind
+item_form_faults at (Err UnknownKind) = fault_faults record_form (at + 1) refl
+item_form_faults at (Err WrongMap) = fault_faults record_form at refl
 
 item_faults : (header : Header) → Faults CheckRow (read_item header)
 unfolding read_item_in
@@ -204,8 +203,8 @@ module _ (P : Program) where
   module _ (s : Replay) (at : ℕ) (i : Item) where
     transition_tabled : (t : Option Transition) → Tabled CheckRow (take_transition P s at i t)
     unfolding take_transition
-    transition_tabled none = refuse_tabled wrong_transition at refl
-    transition_tabled (some t) =
+    transition_tabled None = refuse_tabled wrong_transition at refl
+    transition_tabled (Some t) =
         let fits : Bool = eqb t.source (s.machine.control i.rank) && same_kind (kind_of t.command) i.kind in
         bind_tabled (require_tabled fits wrong_transition at refl) λ _.
         bind_tabled (action_tabled i.rank (s.machine.registers i.rank) at t.command) λ a.
@@ -213,17 +212,17 @@ module _ (P : Program) where
 
     fetch_tabled : (o : Option (Request Origin × List (Request Origin))) → Tabled CheckRow (take_fetch s at i o)
     unfolding take_fetch
-    fetch_tabled none = refuse_tabled empty_queue at refl
-    fetch_tabled (some (a, rest)) = agreed_tabled at (after_fetch s i a rest)
+    fetch_tabled None = refuse_tabled empty_queue at refl
+    fetch_tabled (Some (a, rest)) = agreed_tabled at (after_fetch s i a rest)
 
     delivery_tabled : (o : Option (Delivery Origin × List (Delivery Origin))) → Tabled CheckRow (take_delivery s at i o)
     unfolding take_delivery
-    delivery_tabled none = refuse_tabled empty_queue at refl
-    delivery_tabled (some (b, rest)) = agreed_tabled at (after_delivery s i b rest)
+    delivery_tabled None = refuse_tabled empty_queue at refl
+    delivery_tabled (Some (b, rest)) = agreed_tabled at (after_delivery s i b rest)
 
     part_tabled : (p : Part) → Tabled CheckRow (take_part P s at i p)
     unfolding take_part
-    part_tabled command = transition_tabled (get_elem? P.transitions i.transition)
+    part_tabled command = transition_tabled (slice_get P.transitions i.transition)
     part_tabled fetch = fetch_tabled (oldest (request_for i) (s.machine.requests i.rank i.queue))
     part_tabled delivery = delivery_tabled (oldest (delivery_for i) (s.machine.deliveries i.rank i.queue))
 

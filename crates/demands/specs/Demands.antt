@@ -1,13 +1,10 @@
 -- The three demands, of what the check answers and leaves in the lent lists. A caller lends an order list and a cell list, each of which holds its
 -- entries as numbers or as bytes; `o` is the answer with what the two lists hold then.
-use Rattle.std.specs.Prelude.{ℕ, ◌+◌, ◌-◌, ◌*◌, ◌≤◌, ◌≡◌, Bool, true, ◌||◌, List, ◌↔◌, eqb, length, drop}
-use Rattle.std.proofs.Math.Option.{some}
-use Rattle.std.proofs.Math.ListN.{get_elem?}
-use Rattle.model.specs.declared.Answer.{Answer}
-use Rattle.model.specs.declared.Answer.TheVariants.{Order, Ring, Refused}
+use Rattle.model.specs.declared.Verdict.TheVariants.{Order, Ring}
+use Rattle.std.specs.Prelude.{ℕ, ◌+◌, ◌-◌, ◌*◌, ◌≤◌, ◌≡◌, Bool, true, ◌||◌, List, ◌↔◌, eqb, length, drop, Some, slice_get, Err}
 use Rattle.model.specs.declared.Item.{Item}
 use Rattle.model.specs.declared.Refusal.{Refusal}
-use Rattle.model.specs.Refusals.{ok, program_length, memory_too_short, no_value, start_form}
+use Rattle.model.specs.Refusals.{Ok, program_length, memory_too_short, no_value, start_form}
 use Rattle.model.specs.Choice.{between}
 use Rattle.model.specs.Programs.{Program, read_program}
 use Rattle.model.specs.Records.{read_record}
@@ -17,7 +14,7 @@ use Rattle.model.specs.Rules.{Bare, Rank, Cell, IsRun}
 use Rattle.model.specs.Replay.{Replayed}
 use Rattle.model.specs.HappensBefore.{Edge, HappensBefore, edges_of, ◌⟶◌}
 use Rattle.model.specs.Traces.{SameTrace, SerialRun}
-use Rattle.model.specs.Checks.{accept, Accepted, order_items, Outcome}
+use Rattle.model.specs.Checks.{accept, Accepted, order_items, Outcome, Answer}
 use Rattle.model.specs.Lists.{◌∈◌}
 use Rattle.acceptance.specs.Bare.{bare}
 use Rattle.record_facts.specs.Transfers.{MarksAgree}
@@ -28,21 +25,21 @@ use Rattle.demands.specs.Entries.{Form, width, entries, first_entries}
 -- These bytes are accepted: the check reads this program and these readings, refuses nothing, and the machine is left in this state.
 pub record AcceptedTo (program start recorded : List ℕ) (P : Program) (readings : Start) (last : Bare) : Type 0 where
   pub run : Replayed
-  pub accepted : accept program start recorded ≡ ok (record { program = P; readings = readings; run = run })
+  pub accepted : accept program start recorded ≡ Ok (record { program = P; readings = readings; run = run })
   pub state : bare run.last.machine ≡ last
 
 -- These bytes are a run: a readable program, readings for it, a readable record for it, and its items record a run of the program under Table 1 from
 -- the readings to this state, with empty queues.
 pub record AreRun (program start recorded : List ℕ) (P : Program) (readings : Start) (last : Bare) : Type 0 where
   pub items : List Item
-  pub program_read_lem : read_program program ≡ ok P
-  pub start_read_lem : read_start P.header start ≡ ok readings
-  pub record_read_lem : read_record P.header recorded ≡ ok items
+  pub program_read_lem : read_program program ≡ Ok P
+  pub start_read_lem : read_start P.header start ≡ Ok readings
+  pub record_read_lem : read_record P.header recorded ≡ Ok items
   pub is_run : IsRun P readings items last
 
 -- A readable program and an accepted record of it, from these start bytes.
 abbrev pub IsAccepted : (program start recorded : List ℕ) → Accepted → Type 0
-IsAccepted program start recorded a = accept program start recorded ≡ ok a
+IsAccepted program start recorded a = accept program start recorded ≡ Ok a
 
 -- The groups of an accepted record, the arrows between them, and "N × A".
 abbrev pub groups_of : Accepted → ℕ
@@ -62,14 +59,14 @@ pub record Answerable (form : Form) (program start recorded order cells : List �
 
 -- The answer is an order or a ring, of so many groups.
 abbrev pub IsVerdict : Answer → Type 0
-IsVerdict (Order n) = Unit {0}
-IsVerdict (Ring n) = Unit {0}
-IsVerdict (Refused r) = ⊥
+IsVerdict (Ok (Order n)) = Unit {0}
+IsVerdict (Ok (Ring n)) = Unit {0}
+IsVerdict (Err r) = ⊥
 
 abbrev pub count_in : Answer → ℕ
-count_in (Order n) = n
-count_in (Ring n) = n
-count_in (Refused r) = 0
+count_in (Ok (Order n)) = n
+count_in (Ok (Ring n)) = n
+count_in (Err r) = 0
 
 -- Behind its first so many entries a list is what it was, an odd last byte too.
 pub record Untouched (form : Form) (count : ℕ) (before after : List ℕ) : Type 0 where
@@ -93,11 +90,11 @@ pub record Demand1 (form : Form) (program start recorded order cells : List ℕ)
   -- "The last cell values, rank 1 first, fill the first N × A entries of a second list."
   pub last_cells_lem : (a : Accepted) → Answerable form program start recorded order cells a →
       (rank cell : ℕ) → Rank a.program rank → Cell a.program cell →
-      get_elem? (entries form o.cells) ((rank - 1) * a.program.header.cells + cell) ≡ some (a.run.last.machine.cells rank cell)
+      slice_get (entries form o.cells) ((rank - 1) * a.program.header.cells + cell) ≡ Some (a.run.last.machine.cells rank cell)
   -- "Entries beyond are untouched."
   pub cells_beyond : (a : Accepted) → Answerable form program start recorded order cells a → Untouched form (cells_of a) cells o.cells
   pub order_beyond : Untouched form (count_in o.answer) order o.order
-  pub other_input : (r : Refusal) → o.answer ≡ Refused r → RefusedAs order cells o r
+  pub other_input : (r : Refusal) → o.answer ≡ Err r → RefusedAs order cells o r
 
 -- Demand 2. "A record is accepted exactly if it is a run of the program under Table 1 of the source, ending with empty queues, and the arrows drawn
 -- are its happens-before relation between groups." The check's answer `o` has no part in it: it says what `accept` means, the "accepted" of demands 1
@@ -109,7 +106,7 @@ pub record Demand2 (program start recorded : List ℕ) : Type 0 where
       (g h : ℕ) → (g ⟶ h ∈ arrows_of a) ↔ HappensBefore a.run.events g h
   -- "A group is a read or write with its popa and popb": each pop is in the group of the transfer that it is for, first in, first out.
   pub pops_with_their_transfers : (a : Accepted) → IsAccepted program start recorded a → (items : List Item) →
-      read_record a.program.header recorded ≡ ok items → MarksAgree a.program a.readings items a.run
+      read_record a.program.header recorded ≡ Ok items → MarksAgree a.program a.readings items a.run
 
 -- No plain run of the program, of any length, from the same start has the record's trace: "A plain run begins from those readings too".
 abbrev pub NoSerialRun : Accepted → Type 0
@@ -134,9 +131,9 @@ pub record IsOrder (a : Accepted) (groups : List ℕ) (n : ℕ) : Type 0 where
 -- has the record's trace; otherwise the returned order is a plain run with that trace, the record's value at each access, and the same last cells
 -- and registers."
 pub record Demand3 (form : Form) (a : Accepted) (o : Outcome) : Type 0 where
-  pub ring_exactly_if : ((n : ℕ) × (o.answer ≡ Ring n)) ↔ NoSerialRun a
-  pub ring_listed : (n : ℕ) → o.answer ≡ Ring n → IsRing a (first_entries form n o.order) n
-  pub order_listed : (n : ℕ) → o.answer ≡ Order n → IsOrder a (first_entries form n o.order) n
+  pub ring_exactly_if : ((n : ℕ) × (o.answer ≡ Ok (Ring n))) ↔ NoSerialRun a
+  pub ring_listed : (n : ℕ) → o.answer ≡ Ok (Ring n) → IsRing a (first_entries form n o.order) n
+  pub order_listed : (n : ℕ) → o.answer ≡ Ok (Order n) → IsOrder a (first_entries form n o.order) n
 
 -- All three, of what the check does with these bytes and these lists.
 pub record MeetsDemands (form : Form) (program start recorded order cells : List ℕ) (o : Outcome) : Type 0 where

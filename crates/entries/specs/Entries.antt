@@ -3,7 +3,7 @@ use Rattle.std.specs.Prelude.{ℕ, ◌+◌}
 use Rattle.model.specs.declared.Address.{Address}
 use Rattle.model.specs.Limits.{max_items}
 use Rattle.model.specs.Machine.{address}
-use Rattle.memory.specs.Tables.{Table, Size, number_at, stored}
+use Rattle.memory.specs.Tables.{Table, Size, sized, number_at, stored}
 use Rattle.entries.specs.declared.Request.{Request}
 use Rattle.entries.specs.declared.Delivery.{Delivery}
 
@@ -27,7 +27,7 @@ abbrev pub link_field : ℕ
 link_field = 7
 
 abbrev pub pool_size : Size
-pool_size = record { rows = max_items; width = 8 }
+pool_size = sized max_items 8
 
 abbrev pub address_at : Table → (entry field : ℕ) → Address
 address_at pool entry field = address (number_at pool_size pool entry field) (number_at pool_size pool entry (field + 1))

@@ -6,7 +6,7 @@ ghost use Rattle.std.specs.Prelude.{◌≡◌, ◌<◌};
 ghost use Rattle.memory.specs.Tables.{number_at, stored};
 ghost use Rattle.entries.specs.Entries.{pool_size, address_at, request_at, delivery_at, address_stored, request_stored};
 
-use memory::row_of;
+use memory::{number_at, store};
 use model::{Address, ITEMS};
 
 // Where an entry has its numbers: two places, rank and cell of each, the value that was fetched, the group, the remote rank, and the entry that
@@ -51,24 +51,13 @@ pub struct Delivery {
 pub fn field_at(pool: &Pool, entry: u16, field: usize) -> u16
     ensures { result ≡ number_at pool_size pool.now entry field }
 {
-    let row = row_of(entry, ITEMS);
-    if row < ITEMS {
-        if field < ENTRY {
-            return pool[row][field];
-        }
-    }
-    0
+    number_at(pool, entry, field)
 }
 
 pub fn set_field(pool: &mut Pool, entry: u16, field: usize, value: u16)
     ensures { pool.new ≡ stored pool_size pool.old entry field value }
 {
-    let row = row_of(entry, ITEMS);
-    if row < ITEMS {
-        if field < ENTRY {
-            pool[row][field] = value;
-        }
-    }
+    store(pool, entry, field, value);
 }
 
 // The place that two numbers of an entry give.

@@ -1,98 +1,79 @@
--- An expression read and evaluated at once, token by token: the value of what the definition reads. Each law is one way through the function.
-use Prim.Native.Nat.{ℕ, ◌-◌, ◌<◌}
-use mathlib.Core.Path.{◌≡◌}
-use mathlib.Core.List.{List}
+-- An expression read and evaluated at once: what the definition reads after a token's byte, with values in the place of expressions. An operand is
+-- evaluated as if it stood by itself.
+use Rattle.std.specs.Prelude.{ℕ, ◌-◌, ◌<◌, ◌≤◌, ◌≡◌, List, Option, Some, None}
+use Rattle.model.specs.declared.Found.{Found}
+use mathlib.Core.Path.{refl, ap}
 use native.Mathlib.Omega.{arith}
 use lib.Dec.{ltb}
 use borrow.Author.Tests.{ltb-true}
-use Rattle.model.specs.declared.Header.{Header}
 use Rattle.model.specs.declared.Refusal.{Refusal}
-use Rattle.model.specs.Refusals.{Result, program_length, program_form}
+use Rattle.model.specs.Refusals.{Result, Ok, Err, refuse, program_length, program_form, ◌>>=◌}
 use Rattle.model.specs.Choice.{lookup}
-use Rattle.model.specs.Bytes.{Found, Reader, byte}
-use Rattle.model.specs.Expressions.{Counted, tokens, after_token, on_token, read_expression, operated, evaluate}
+use Rattle.model.specs.Bytes.{byte, found}
+use Rattle.model.specs.Expressions.{Counted, apply, tokens, after_token, on_token, operated, read_expression, evaluate}
 use Rattle.model.proofs.Bytes.{judged_ok}
-use Rattle.fields.specs.declared.Field.{Field}
-use Rattle.fields.specs.declared.Field.TheVariants.{Read, Refused}
-use Rattle.fields.specs.Fields.{field_of, field_refusal}
-use Rattle.fields.proofs.Fields.{field_told}
-use Rattle.expressions.specs.declared.tokens.Operand.{Operand}
-use Rattle.expressions.specs.declared.tokens.Operator.{Operator}
-use Rattle.expressions.specs.declared.tokens.Token as Token
-use Rattle.expressions.specs.declared.tokens.Token.{Token}
-use Rattle.expressions.specs.declared.value.Value.{Value}
-use Rattle.expressions.specs.declared.Evaluated as Evaluated
+use Rattle.model.proofs.Laws.{bind_ok, ok_injective}
+use Rattle.expressions.specs.declared.Environment.{Environment}
 use Rattle.expressions.specs.declared.Evaluated.{Evaluated}
-use Rattle.expressions.specs.Values.{option_token, operand_token, operator_of, evaluated, option_in, value_in, register_of, token_byte}
+use Rattle.expressions.specs.declared.tokens.Operator.{Operator}
+use Rattle.expressions.specs.declared.tokens.Token.{Token}
+use Rattle.expressions.specs.Values.{evaluated, operand_token, operator_of, option_token, token_byte, value_of}
 use Rattle.expressions.proofs.Expressions.{expression_falls, same_depth, by_token}
-use Rattle.expressions.proofs.Values.{value_told, evaluated_found, evaluated_refused}
 
 -- A token's byte that was read had a token left for it.
-pub some_left : (left : ℕ) (bytes : List ℕ) (at : ℕ) {x : Field} {v next : ℕ} →
-    x ≡ field_of (token_byte left bytes at) → x ≡ Read v next → 0 < left
-some_left left bytes at p q =
-    ltb-true 0 left
-    (judged_ok (λ _. ltb 0 left) program_form (byte program_length) bytes at (field_told (token_byte left bytes at) p q)).1
+pub some_left : (left : ℕ) (bytes : List ℕ) (at : ℕ) {f : Found ℕ} → token_byte left bytes at ≡ Ok f → 0 < left
+some_left left bytes at h = ltb-true 0 left (judged_ok (λ _. ltb 0 left) program_form (byte program_length) bytes at h).1
 
-module _ (header : Header) (rank : ℕ) (registers : List ℕ) (left : ℕ) (bytes : List ℕ) (at : ℕ)
-    {x : Field} (p : x ≡ field_of (token_byte left bytes at)) where
-  -- An expression of at most so many tokens, and what the function answers.
-  abbrev read_at : (k place : ℕ) → Result (Found Counted)
-  read_at k place = read_expression header.registers k k bytes place
+module _ (e : Environment) (bytes : List ℕ) where
+  -- An expression of at most so many tokens.
+  abbrev read_at : (left at : ℕ) → Result (Found Counted)
+  read_at left at = read_expression e.header.registers left left bytes at
 
-  abbrev whole : Evaluated
-  whole = evaluated header rank registers (read_at left at)
+  -- What the definition and the code make of an operator and its operands.
+  abbrev of_expressions : Operator → Counted → Found Counted → Result (Found Counted)
+  of_expressions o a b = found (record { expression = apply (operator_of o) a.expression b.value.expression; left = b.value.left }) b.next
 
-  pub no_token : {r : Refusal} → x ≡ Refused r → Evaluated.TheVariants.Refused (field_refusal x) ≡ whole
-  unfolding evaluated
-  no_token q = rw (q, by_token, field_told (token_byte left bytes at) p q)
+  abbrev of_values : Operator → Evaluated → Found Evaluated → Result (Found Evaluated)
+  of_values o a b = found (record { value = operated (operator_of o) a.value b.value.value; left = b.value.left }) b.next
 
-  -- What follows the byte is the token's.
-  module _ {v next : ℕ} (q : x ≡ Read v next) (token : Token) (known : option_token token ≡ lookup v tokens) where
-    at_token : read_at left at
-        ≡ on_token header.registers (read_expression header.registers (left - 1)) (left - 1) at (option_token token) bytes next
-    at_token = rw (by_token, field_told (token_byte left bytes at) p q, known)
+  -- What follows a token whose byte stands at `at`, by the tokens left after it.
+  abbrev after : (left at : ℕ) → Option Token → (next : ℕ) → Result (Found Evaluated)
+  after left at None next = refuse program_form at
+  after left at (Some (Token.Operand o)) next =
+      evaluated e (after_token e.header.registers (read_expression e.header.registers left) left (operand_token o) bytes next)
+  after left at (Some (Token.Operator o)) next =
+      evaluated e (read_at left next) >>= (λ a. evaluated e (read_at a.value.left a.next) >>= of_values o a.value)
 
-    pub unknown : token ≡ Token.TheVariants.Unknown → Evaluated.TheVariants.Refused (record { number = program_form; place = at }) ≡ whole
-    unfolding evaluated on_token
-    unknown t = rw (at_token, t)
+  -- An operand leaves no more tokens than it was given.
+  pub operand_falls : (left at : ℕ) {a : Found Evaluated} → evaluated e (read_at left at) ≡ Ok a → a.value.left ≤ left
+  operand_falls left at h =
+      let (f, p, q) = bind_ok (read_at left at) _ h in
+      let s = ap (λ (a : Found Evaluated). a.value.left) (ok_injective q) in
+      omega (arith, s, expression_falls e.header.registers left bytes left at f.value f.next p)
 
-    pub operand : {o : Operand} {y : Evaluated} → token ≡ Token.TheVariants.Operand o →
-        ((operands : ℕ → Reader Counted) →
-        y ≡ evaluated header rank registers (after_token header.registers operands (left - 1) (operand_token o) bytes next)) →
-        y ≡ whole
-    unfolding evaluated on_token
-    operand t h = rw (at_token, t) (h (read_expression header.registers (left - 1)))
+  second_operand : (o : Operator) (a : Counted) (m : Result (Found Counted)) →
+      evaluated e (m >>= of_expressions o a)
+      ≡ (evaluated e m >>= of_values o (record { value = value_of e a.expression; left = a.left }))
+  unfolding evaluate
+  second_operand o a (Ok b) = refl
+  second_operand o a (Err r) = refl
 
-    module _ {o : Operator} (t : token ≡ Token.TheVariants.Operator o) {first : Evaluated}
-        (p₁ : first ≡ evaluated header rank registers (read_at (left - 1) next)) where
-      pub first_refused : {r : Refusal} → first ≡ Evaluated.TheVariants.Refused r → first ≡ whole
-      unfolding evaluated on_token after_token
-      first_refused q₁ = rw (at_token, t, evaluated_refused header rank registers (read_at (left - 1) next) p₁ q₁) q₁
+  first_operand : (o : Operator) (left at : ℕ) (m : Result (Found Counted)) → read_at left at ≡ m →
+      evaluated e (m >>= (λ a. read_expression e.header.registers left a.value.left bytes a.next >>= of_expressions o a.value))
+      ≡ (evaluated e m >>= (λ a. evaluated e (read_at a.value.left a.next) >>= of_values o a.value))
+  first_operand o left at (Ok a) h =
+      let falls = expression_falls e.header.registers left bytes left at a.value a.next h in
+      rw (same_depth e.header.registers left a.value.left a.value.left falls (omega arith) bytes a.next)
+      (second_operand o a.value (read_at a.value.left a.next))
+  first_operand o left at (Err r) h = refl
 
-      module _ {a : Value} {middle rest : ℕ} (q₁ : first ≡ Evaluated.TheVariants.Read a middle rest) where
-        -- The first operand took a token, so the second has fewer.
-        pub fewer : rest < left
-        fewer =
-            let (e, m, d) = evaluated_found header rank registers (read_at (left - 1) next) p₁ q₁ in
-            omega (arith, expression_falls header.registers (left - 1) bytes (left - 1) next _ _ m, some_left left bytes at p q)
+  module _ (left at : ℕ) where
+    pub no_token : {r : Refusal} → token_byte left bytes at ≡ Err r → evaluated e (read_at left at) ≡ Err r
+    no_token h = rw (by_token, h)
 
-        module _ {second : Evaluated} (p₂ : second ≡ evaluated header rank registers (read_at rest middle)) where
-          -- The second operand is read as if it stood by itself.
-          alone : read_expression header.registers (left - 1) rest bytes middle ≡ read_at rest middle
-          alone = same_depth header.registers (left - 1) rest rest (omega (arith, fewer)) (omega arith) bytes middle
-
-          pub second_refused : {r : Refusal} → second ≡ Evaluated.TheVariants.Refused r → second ≡ whole
-          unfolding evaluated on_token after_token
-          second_refused q₂ =
-              let (e, m, d) = evaluated_found header rank registers (read_at (left - 1) next) p₁ q₁ in
-              rw (at_token, t, m, alone, evaluated_refused header rank registers (read_at rest middle) p₂ q₂) q₂
-
-          pub both : {b y : Value} {end fewest : ℕ} → second ≡ Evaluated.TheVariants.Read b end fewest →
-              y ≡ value_in (operated (operator_of o) (option_in a) (option_in b)) → Evaluated.TheVariants.Read y end fewest ≡ whole
-          unfolding evaluated on_token after_token evaluate
-          both q₂ h =
-              let (e, m, d) = evaluated_found header rank registers (read_at (left - 1) next) p₁ q₁ in
-              let (e', m', d') = evaluated_found header rank registers (read_at rest middle) p₂ q₂ in
-              let value = evaluate header.ranks rank (register_of registers) in
-              rw (at_token, t, m, alone, m', h, value_told (value e) d, value_told (value e') d')
+    pub token_read : {f : Found ℕ} (t : Option Token) → token_byte left bytes at ≡ Ok f → option_token t ≡ lookup f.value tokens →
+        evaluated e (read_at left at) ≡ after (left - 1) at t f.next
+    unfolding on_token after_token
+    token_read None h known = rw (by_token, h, ← known)
+    token_read (Some (Token.Operand o)) h known = rw (by_token, h, ← known)
+    token_read {f} (Some (Token.Operator o)) h known = rw (by_token, h, ← known) (first_operand o (left - 1) f.next (read_at (left - 1) f.next) refl)

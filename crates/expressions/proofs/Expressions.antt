@@ -1,17 +1,32 @@
 -- The definition reads operands at most `depth` deep, the code goes by the tokens that are left. Each operand takes a token, so a depth that is no
 -- less than the tokens left never shows: the reader is the same at every such depth.
+use Rattle.model.specs.declared.Found.{Found}
+use Rattle.std.specs.Prelude.{Option, Some, None}
 use Prim.Native.Nat.{ℕ, zero, suc, ◌-◌, ◌≤◌}
 use mathlib.Core.Path.{◌≡◌, refl, ap, sym}
 use mathlib.Core.List.{List}
-use mathlib.Core.Option.{Option, some, none}
 use native.Mathlib.Omega.{arith}
 use lib.Dec.{ltb}
 use borrow.Author.Tests.{lt-ltb}
-use Rattle.model.specs.Refusals.{ok, program_length, program_range}
+use Rattle.model.specs.Refusals.{Ok, program_length, program_range}
 use Rattle.model.specs.Refusals as Refusals
 use Rattle.model.specs.Choice.{lookup}
-use Rattle.model.specs.Bytes.{Found, Reader, found, byte, word, judged}
-use Rattle.model.specs.Expressions.{Counted, Expression, Token, constant_token, register_token, own_rank_token, rank_count_token, operator_token, tokens, no_token_left, after_token, on_token, read_expression}
+use Rattle.model.specs.Bytes.{Reader, found, byte, word, judged}
+use Rattle.model.specs.Expressions.{
+  Counted,
+  Expression,
+  Token,
+  constant_token,
+  register_token,
+  own_rank_token,
+  rank_count_token,
+  operator_token,
+  tokens,
+  no_token_left,
+  after_token,
+  on_token,
+  read_expression,
+}
 use Rattle.model.proofs.Laws.{bind_assoc, bind_cong, bind_ok, ok_injective, refused≢ok}
 use Rattle.expressions.specs.Values.{token_byte}
 
@@ -21,7 +36,7 @@ Falls operand bytes = (k at : ℕ) (a : Counted) (n : ℕ) → operand k bytes a
 
 -- The tokens left of what was read.
 left_of : {e : Expression} {left n m : ℕ} {a : Counted} →
-    ok (record { value = record { expression = e; left = left }; next = n }) ≡ found a m → a.left ≤ left
+    Ok (record { value = record { expression = e; left = left }; next = n }) ≡ found a m → a.left ≤ left
 left_of h = let e = ap (λ (f : Found Counted). f.value.left) (ok_injective h) in omega arith
 
 none_left : (bytes : List ℕ) (at : ℕ) {a : Counted} {n : ℕ} → no_token_left bytes at ≡ found a n → ⊥
@@ -43,8 +58,8 @@ module _ (registers : ℕ) (operand : ℕ → Reader Counted) (bytes : List ℕ)
   on_falls : (left place at : ℕ) (t : Option Token) {a : Counted} {n : ℕ} →
       on_token registers operand left place t bytes at ≡ found a n → a.left ≤ left
   unfolding on_token
-  on_falls left place at (some t) h = after_falls left at t h
-  on_falls left place at none h = absurd (refused≢ok h)
+  on_falls left place at (Some t) h = after_falls left at t h
+  on_falls left place at None h = absurd (refused≢ok h)
 
 pub expression_falls : (registers depth : ℕ) (bytes : List ℕ) → Falls (read_expression registers depth) bytes
 unfolding read_expression
@@ -74,8 +89,8 @@ module _ (registers : ℕ) (one other : ℕ → Reader Counted) (bytes : List �
 
   on_alike : (place at : ℕ) (t : Option Token) → on_token registers one left place t bytes at ≡ on_token registers other left place t bytes at
   unfolding on_token
-  on_alike place at (some t) = after_alike at t
-  on_alike place at none = refl
+  on_alike place at (Some t) = after_alike at t
+  on_alike place at None = refl
 
 pub same_depth : (registers depth other left : ℕ) → left ≤ depth → left ≤ other → (bytes : List ℕ) (at : ℕ) →
     read_expression registers depth left bytes at ≡ read_expression registers other left bytes at

@@ -1,83 +1,26 @@
--- What the answers of an expression tell of what was read: an expression of that value, or the refusal.
-use Prim.Native.Nat.{ℕ}
-use mathlib.Core.Path.{◌≡◌, ap, sym}
-use mathlib.Core.List.{List}
-use mathlib.Core.Option.{Option, some, none}
-use native.Mathlib.Omega.{arith}
-use lib.Dec.{ltb}
-use Rattle.model.specs.declared.Header.{Header}
+-- What an answer made of what was found tells: what it was made of, at the same place, or the refusal.
+use Rattle.std.specs.Prelude.{◌≡◌}
+use Rattle.model.specs.declared.Found.{Found}
+use mathlib.Core.Path.{refl}
 use Rattle.model.specs.declared.Refusal.{Refusal}
-use Rattle.model.specs.Limits.{max_tokens}
-use Rattle.model.specs.Refusals.{Result, ok, refused, program_length, program_range}
-use Rattle.model.specs.Bytes.{Found, byte, found, judged}
-use Rattle.model.specs.Expressions.{Counted, Expression, expression, read_expression}
-use Rattle.fields.specs.declared.Field.{Field}
-use Rattle.fields.specs.Fields.{field_of}
-use Rattle.fields.proofs.Fields.{field_told, result_of}
-use Rattle.expressions.specs.declared.value.Value.{Value}
-use Rattle.expressions.specs.declared.Evaluated as Evaluated
-use Rattle.expressions.specs.declared.Evaluated.{Evaluated}
-use Rattle.expressions.specs.declared.Valued as Valued
-use Rattle.expressions.specs.declared.Valued.{Valued}
-use Rattle.expressions.specs.Values.{evaluated, number_below, option_in, value_in, value_of, valued}
+use Rattle.model.specs.Refusals.{Result, Ok, Err, ◌>>=◌}
+use Rattle.model.specs.Bytes.{found}
+use Rattle.expressions.specs.Values.{map_found}
 
--- What the answer of a number below a limit tells of the definition's reader.
-pub number_told : (limit : ℕ) (bytes : List ℕ) (at : ℕ) {x y : Field} → x ≡ field_of (number_below limit bytes at) → x ≡ y →
-    judged (λ i. ltb i limit) program_range (byte program_length) bytes at ≡ result_of y
-unfolding number_below
-number_told limit bytes at = field_told (number_below limit bytes at)
+module _ {A B : Type 0} (make : A → B) where
+  pub made_of : (m : Result (Found A)) {b : Found B} → Ok b ≡ map_found make m → (a : A) × (m ≡ found a b.next) × (b.value ≡ make a)
+  made_of (Ok f) {b} h =
+      let e : b ≡ record { value = make f.value; next = f.next } = cc in
+      (f.value, rw e refl, rw e refl)
+  made_of (Err r) h = cc
 
--- A value in the code's form tells the definition's.
-pub value_told : (o : Option ℕ) {v : Value} → value_in o ≡ v → option_in v ≡ o
-value_told (some n) h = ap option_in (sym h)
-value_told none h = ap option_in (sym h)
+  pub made_of_none : (m : Result (Found A)) {r : Refusal} → Err r ≡ map_found make m → m ≡ Err r
+  made_of_none (Ok f) h = cc
+  made_of_none (Err s) h = cc
 
-module _ (header : Header) (rank : ℕ) (registers : List ℕ) where
-  pub value_found : (m : Result (Found Expression)) {x : Valued} {v : Value} {n : ℕ} →
-      x ≡ valued header rank registers m → x ≡ Valued.TheVariants.Read v n →
-      (e : Expression) × (m ≡ found e n) × (value_of header rank registers e ≡ v)
-  unfolding valued
-  value_found (ok f) {x} {v} {n} p q =
-      let e : v ≡ value_of header rank registers f.value = cc in
-      let d : n ≡ f.next = cc in
-      (f.value, rw d, sym e)
-  value_found (refused r) p q = let z : ◌≡◌ {A = ℕ} 0 1 = cc in absurd (omega arith)
-
-  pub value_refused : (m : Result (Found Expression)) {x : Valued} {r : Refusal} →
-      x ≡ valued header rank registers m → x ≡ Valued.TheVariants.Refused r → m ≡ refused r
-  unfolding valued
-  value_refused (ok f) p q = cc
-  value_refused (refused r) p q = cc
-
-  -- The same within an expression, with the tokens left.
-  pub evaluated_found : (m : Result (Found Counted)) {x : Evaluated} {v : Value} {n left : ℕ} →
-      x ≡ evaluated header rank registers m → x ≡ Evaluated.TheVariants.Read v n left →
-      (e : Expression) × (m ≡ found (record { expression = e; left = left }) n) × (value_of header rank registers e ≡ v)
-  unfolding evaluated
-  evaluated_found (ok f) {x} {v} {n} {left} p q =
-      let e : v ≡ value_of header rank registers f.value.expression = cc in
-      let d : n ≡ f.next = cc in
-      let l : left ≡ f.value.left = cc in
-      (f.value.expression, rw (d, l), sym e)
-  evaluated_found (refused r) p q = let z : ◌≡◌ {A = ℕ} 0 1 = cc in absurd (omega arith)
-
-  pub evaluated_refused : (m : Result (Found Counted)) {x : Evaluated} {r : Refusal} →
-      x ≡ evaluated header rank registers m → x ≡ Evaluated.TheVariants.Refused r → m ≡ refused r
-  unfolding evaluated
-  evaluated_refused (ok f) p q = cc
-  evaluated_refused (refused r) p q = cc
-
-  -- A whole expression, whose left-over tokens do not matter.
-  module _ (bytes : List ℕ) (at : ℕ) {x : Evaluated}
-      (p : x ≡ evaluated header rank registers (read_expression header.registers max_tokens max_tokens bytes at)) where
-    pub whole_value : {v : Value} {n left : ℕ} → x ≡ Evaluated.TheVariants.Read v n left →
-        Valued.TheVariants.Read v n ≡ valued header rank registers (expression header.registers bytes at)
-    unfolding expression valued
-    whole_value q =
-        let (e, m, d) = evaluated_found (read_expression header.registers max_tokens max_tokens bytes at) p q in
-        rw (m, d)
-
-    pub whole_refused : {r : Refusal} → x ≡ Evaluated.TheVariants.Refused r →
-        Valued.TheVariants.Refused r ≡ valued header rank registers (expression header.registers bytes at)
-    unfolding expression valued
-    whole_refused q = rw (evaluated_refused (read_expression header.registers max_tokens max_tokens bytes at) p q)
+  -- What follows may be made of what was found, or go by what was made.
+  pub made_then : {C D : Type 0} (last : C → D) (m : Result (Found A)) (rest : Found A → Result (Found C)) (next : Found B → Result (Found D)) →
+      ((f : Found A) → map_found last (rest f) ≡ next (record { value = make f.value; next = f.next })) →
+      map_found last (m >>= rest) ≡ (map_found make m >>= next)
+  made_then last (Ok f) rest next h = h f
+  made_then last (Err r) rest next h = refl

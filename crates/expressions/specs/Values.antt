@@ -1,9 +1,9 @@
 -- Expressions as the code has them: its tokens against the definition's, and the value of what was read.
-use Rattle.std.specs.Prelude.{ℕ, List, ltb, get_or}
-use Rattle.std.proofs.Math.Option.{Option, some, none}
-use Rattle.model.specs.declared.Header.{Header}
-use Rattle.model.specs.Refusals.{Result, ok, refused, program_length, program_range, program_form}
-use Rattle.model.specs.Bytes.{Found, Reader, byte, judged}
+use Rattle.std.specs.Prelude.{ℕ, List, ltb, get_or, Option, Some, None}
+use Rattle.model.specs.declared.Found.{Found}
+use Rattle.model.specs.Refusals as Refusals
+use Rattle.model.specs.Refusals.{Result, program_length, program_range, program_form}
+use Rattle.model.specs.Bytes.{Reader, found, byte, judged}
 use Rattle.model.specs.Expressions as Expressions
 use Rattle.model.specs.Expressions.{
   Counted,
@@ -20,12 +20,8 @@ use Rattle.model.specs.Expressions.{
   less,
   evaluate,
 }
-use Rattle.expressions.specs.declared.value.Value.{Value}
-use Rattle.expressions.specs.declared.value.Value.TheVariants.{Number, Missing}
-use Rattle.expressions.specs.declared.Evaluated as Evaluated
+use Rattle.expressions.specs.declared.Environment.{Environment}
 use Rattle.expressions.specs.declared.Evaluated.{Evaluated}
-use Rattle.expressions.specs.declared.Valued as Valued
-use Rattle.expressions.specs.declared.Valued.{Valued}
 use Rattle.expressions.specs.declared.tokens.Operand.{Operand}
 use Rattle.expressions.specs.declared.tokens.Operand.TheVariants.{Constant, Register, OwnRank, RankCount}
 use Rattle.expressions.specs.declared.tokens.Operator.{Operator}
@@ -47,10 +43,10 @@ operator_of Product = product
 operator_of Equal = equal
 operator_of Less = less
 
-abbrev pub option_token : Token → Option Expressions.Token
-option_token (Token.TheVariants.Operand o) = some (operand_token o)
-option_token (Token.TheVariants.Operator o) = some (operator_token (operator_of o))
-option_token Token.TheVariants.Unknown = none
+abbrev pub option_token : Option Token → Option Expressions.Token
+option_token (Some (Token.TheVariants.Operand o)) = Some (operand_token o)
+option_token (Some (Token.TheVariants.Operator o)) = Some (operator_token (operator_of o))
+option_token None = None
 
 -- A number of a program that has to be below a limit, as a state or a register.
 unfoldable pub number_below : (limit : ℕ) → Reader ℕ
@@ -60,29 +56,17 @@ number_below limit = judged (λ i. ltb i limit) program_range (byte program_leng
 abbrev pub token_byte : (left : ℕ) → Reader ℕ
 token_byte left = judged (λ _. ltb 0 left) program_form (byte program_length)
 
+-- What the code makes of what the definition finds, at the same place; a refusal stays.
+abbrev pub map_found : {A B : Type 0} → (A → B) → Result (Found A) → Result (Found B)
+map_found make m = Refusals.◌>>=◌ m (λ f. found (make f.value) f.next)
+
 -- Registers as a list, as the definition has them.
 abbrev pub register_of : List ℕ → ℕ → ℕ
 register_of registers i = get_or registers i 0
 
--- A value as the definition has it, and as the code has it.
-abbrev pub option_in : Value → Option ℕ
-option_in (Number n) = some n
-option_in Missing = none
+-- The value of an expression in an environment, if it has one; and with the tokens left.
+abbrev pub value_of : Environment → Expression → Option ℕ
+value_of e = evaluate e.header.ranks e.rank (register_of e.registers)
 
-abbrev pub value_in : Option ℕ → Value
-value_in (some n) = Number n
-value_in none = Missing
-
-module _ (header : Header) (rank : ℕ) (registers : List ℕ) where
-  -- The value of an expression in a rank with these registers.
-  abbrev pub value_of : Expression → Value
-  value_of e = value_in (evaluate header.ranks rank (register_of registers) e)
-
-  -- The answer, by what was read: its value, the place after it, and the tokens left; or the refusal.
-  unfoldable pub evaluated : Result (Found Counted) → Evaluated
-  evaluated (ok f) = Evaluated.TheVariants.Read (value_of f.value.expression) f.next f.value.left
-  evaluated (refused r) = Evaluated.TheVariants.Refused r
-
-  unfoldable pub valued : Result (Found Expression) → Valued
-  valued (ok f) = Valued.TheVariants.Read (value_of f.value) f.next
-  valued (refused r) = Valued.TheVariants.Refused r
+abbrev pub evaluated : Environment → Result (Found Counted) → Result (Found Evaluated)
+evaluated e = map_found (λ c. record { value = value_of e c.expression; left = c.left })

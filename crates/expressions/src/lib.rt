@@ -3,37 +3,37 @@
 #![tactic(auto)]
 
 mod tokens;
-pub mod value;
 
-ghost use Rattle.std.specs.Prelude.{◌≡◌, get_or, ℕ};
+ghost use Rattle.std.specs.Prelude.{◌≡◌, get_or, ℕ, Some};
 ghost use Rattle.model.specs.Bytes.{Reader};
 ghost use Rattle.model.specs.Expressions.{Counted, after_token, expression, read_expression};
-ghost use Rattle.fields.specs.Fields.{field_of};
-ghost use Rattle.expressions.specs.Values.{operand_token, evaluated, number_below, token_byte, valued};
+ghost use Rattle.expressions.specs.Values.{map_found, operand_token, value_of, evaluated, number_below, token_byte};
 
-use crate::tokens::{Operand, Token, in_range, operated, token_of};
-use crate::value::Value;
-use fields::{Field, below, read_byte, read_word};
+use crate::tokens::{Operand, Token, operated, token_of};
+use fields::{below, read_byte, read_word};
 use model::refusals::{PROGRAM_FORM, PROGRAM_LENGTH, PROGRAM_RANGE};
-use model::{Header, RankRegisters, Refusal, TOKENS};
+use model::{Found, Header, RankRegisters, Read, Refusal, TOKENS};
 
-// An expression's value in a rank and the place after it, or the refusal.
+// What expressions are evaluated in: a rank of a machine with this header, and that rank's registers.
 #[derive(Clone, Copy)]
-pub enum Valued {
-    Read(Value, usize),
-    Refused(Refusal),
+pub struct Environment {
+    pub header: Header,
+    pub rank: u16,
+    pub registers: RankRegisters,
 }
 
-// The same, with how many tokens may still be read of the fifteen.
+// The value of an expression, if it has one: "A sum or product above 65,535 or a difference below 0 has no value any more, and neither has an
+// expression holding it"; and how many tokens may still be read of the fifteen.
 #[derive(Clone, Copy)]
-enum Evaluated {
-    Read(Value, usize, u16),
-    Refused(Refusal),
+struct Evaluated {
+    value: Option<u16>,
+    left: u16,
 }
 
 // A number of a program that has to be below a limit, as a state or a register.
-pub fn read_below(bytes: &[u8], at: usize, limit: u16) -> Field
-    ensures { result ≡ field_of (number_below limit bytes.now at) }
+#[tactic(auto, unfolding(crate::specs::Values::number_below, model::specs::Bytes::judged))]
+pub fn read_below(bytes: &[u8], at: usize, limit: u16) -> Read<u16>
+    ensures { result ≡ number_below limit bytes.now at }
 {
     below(
         read_byte(bytes, at, PROGRAM_LENGTH),
@@ -43,124 +43,102 @@ pub fn read_below(bytes: &[u8], at: usize, limit: u16) -> Field
     )
 }
 
-// A register's value. One that no rank has is 0.
-fn register_value(registers: &[u16], index: u16) -> u16
-    ensures { result ≡ get_or registers.now index 0 }
-{
-    let place = index as usize;
-    if place < registers.len() {
-        registers[place]
-    } else {
-        0
-    }
-}
-
 // A token's byte. "sixteenth token": it has to be there, and is refused whatever it is.
-fn read_token(bytes: &[u8], at: usize, left: u16) -> Field
-    ensures { result ≡ field_of (token_byte left bytes.now at) }
+#[tactic(auto, unfolding(model::specs::Bytes::judged))]
+fn read_token(bytes: &[u8], at: usize, left: u16) -> Read<u16>
+    ensures { result ≡ token_byte left bytes.now at }
 {
-    let read = read_byte(bytes, at, PROGRAM_LENGTH);
-    let Field::Read(_, _) = read else {
-        return read;
-    };
+    let byte = read_byte(bytes, at, PROGRAM_LENGTH)?;
     if 0 < left {
-        read
+        Ok(byte)
     } else {
-        Field::Refused(Refusal {
+        Err(Refusal {
             number: PROGRAM_FORM,
             place: at,
         })
     }
 }
 
-// A token that takes no operands, by what follows it. However operands would be read, it is the same.
-fn evaluate_operand(
-    bytes: &[u8],
-    at: usize,
-    operand: Operand,
-    left: u16,
-    header: Header,
-    rank: u16,
-    registers: &[u16],
-) -> Evaluated
-    ensures { (operands : ℕ → Reader Counted) →
-        result ≡ evaluated header rank registers.now
-        (after_token header.registers operands left (operand_token operand) bytes.now at) }
-{
-    match operand {
-        Operand::Constant => {
-            let read = read_word(bytes, at, PROGRAM_LENGTH);
-            let Field::Read(value, next) = read else {
-                return Evaluated::Refused(read.refusal());
-            };
-            Evaluated::Read(Value::Number(value), next, left)
-        }
-        Operand::Register => {
-            let read = read_below(bytes, at, header.registers);
-            let Field::Read(index, next) = read else {
-                return Evaluated::Refused(read.refusal());
-            };
-            let value = register_value(registers, index);
-            Evaluated::Read(Value::Number(value), next, left)
-        }
-        Operand::OwnRank => Evaluated::Read(Value::Number(rank), at, left),
-        Operand::RankCount => Evaluated::Read(Value::Number(header.ranks), at, left),
+impl Environment {
+    // A register's value. One that no rank has is 0.
+    fn register_value(&self, index: u16) -> u16
+        ensures { result ≡ get_or self.now.registers index 0 }
+    {
+        self.registers.get(index as usize).copied().unwrap_or(0)
     }
-}
 
-// An expression of at most `left` tokens. "A token's operands are expressions again."
-fn evaluate_tokens(
-    bytes: &[u8],
-    at: usize,
-    left: u16,
-    header: Header,
-    rank: u16,
-    registers: &[u16],
-) -> Evaluated
-    ensures { result ≡ evaluated header rank registers.now
-        (read_expression header.registers left left bytes.now at) }
-{
-    let read = read_token(bytes, at, left);
-    let Field::Read(byte, next) = read else {
-        return Evaluated::Refused(read.refusal());
-    };
-    let token = token_of(byte);
-    match token {
-        Token::Operand(operand) => {
-            evaluate_operand(bytes, next, operand, left - 1, header, rank, registers)
+    // A token that takes no operands, by what follows it: it has a value always, and leaves as many tokens as it was given. However operands would be
+    // read, it is the same.
+    #[tactic(auto, unfolding(model::specs::Expressions::after_token, model::specs::Expressions::evaluate, crate::specs::Values::number_below))]
+    fn evaluate_operand(&self, bytes: &[u8], at: usize, operand: Operand) -> Read<u16>
+        ensures { (operands : ℕ → Reader Counted) (left : ℕ) →
+            map_found (λ value. record { value = Some value; left = left }) result
+            ≡ evaluated self.now (after_token self.now.header.registers operands left (operand_token operand) bytes.now at) }
+    {
+        match operand {
+            Operand::Constant => read_word(bytes, at, PROGRAM_LENGTH),
+            Operand::Register => {
+                let index = read_below(bytes, at, self.header.registers)?;
+                Ok(Found {
+                    value: self.register_value(index.value),
+                    next: index.next,
+                })
+            }
+            Operand::OwnRank => Ok(Found {
+                value: self.rank,
+                next: at,
+            }),
+            Operand::RankCount => Ok(Found {
+                value: self.header.ranks,
+                next: at,
+            }),
         }
-        Token::Operator(operator) => {
-            let first = evaluate_tokens(bytes, next, left - 1, header, rank, registers);
-            let Evaluated::Read(a, middle, rest) = first else {
-                return first;
-            };
-            let second = evaluate_tokens(bytes, middle, rest, header, rank, registers);
-            let Evaluated::Read(b, end, fewer) = second else {
-                return second;
-            };
-            let number = operated(operator, a, b);
-            Evaluated::Read(in_range(number), end, fewer)
-        }
-        Token::Unknown => Evaluated::Refused(Refusal {
+    }
+
+    // An expression of at most `left` tokens. "A token's operands are expressions again."
+    fn evaluate_tokens(&self, bytes: &[u8], at: usize, left: u16) -> Read<Evaluated>
+        ensures { result ≡ evaluated self.now (read_expression self.now.header.registers left left bytes.now at) }
+    {
+        let byte = read_token(bytes, at, left)?;
+        let token = token_of(byte.value).ok_or(Refusal {
             number: PROGRAM_FORM,
             place: at,
-        }),
+        })?;
+        let fewer = left - 1;
+        match token {
+            Token::Operand(operand) => {
+                let operand = self.evaluate_operand(bytes, byte.next, operand)?;
+                Ok(Found {
+                    value: Evaluated {
+                        value: Some(operand.value),
+                        left: fewer,
+                    },
+                    next: operand.next,
+                })
+            }
+            Token::Operator(operator) => {
+                let first = self.evaluate_tokens(bytes, byte.next, fewer)?;
+                let second = self.evaluate_tokens(bytes, first.next, first.value.left)?;
+                Ok(Found {
+                    value: Evaluated {
+                        value: operated(operator, first.value.value, second.value.value),
+                        left: second.value.left,
+                    },
+                    next: second.next,
+                })
+            }
+        }
     }
-}
 
-// The expression at a place, with fifteen tokens of its own: its value in a rank with these registers, and the place after it.
-pub fn evaluate(
-    bytes: &[u8],
-    at: usize,
-    header: Header,
-    rank: u16,
-    registers: RankRegisters,
-) -> Valued
-    ensures { result ≡ valued header rank registers (expression header.registers bytes.now at) }
-{
-    let read = evaluate_tokens(bytes, at, TOKENS as u16, header, rank, &registers);
-    match read {
-        Evaluated::Read(value, next, _) => Valued::Read(value, next),
-        Evaluated::Refused(refusal) => Valued::Refused(refusal),
+    // The expression at a place, with fifteen tokens of its own: its value, if it has one, and the place after it.
+    #[tactic(auto, unfolding(model::specs::Expressions::expression))]
+    pub fn evaluate(&self, bytes: &[u8], at: usize) -> Read<Option<u16>>
+        ensures { result ≡ map_found (value_of self.now) (expression self.now.header.registers bytes.now at) }
+    {
+        let read = self.evaluate_tokens(bytes, at, TOKENS as u16)?;
+        Ok(Found {
+            value: read.value.value,
+            next: read.next,
+        })
     }
 }

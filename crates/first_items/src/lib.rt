@@ -5,39 +5,50 @@ ghost use Rattle.std.specs.Prelude.{◌≡◌};
 ghost use Rattle.first_items.specs.Firsts.{noted_under, noted, first_items, first_of};
 
 use model::{Header, ITEMS, Item, Trail};
-use record::item::{ItemRead, read_item};
+use record::item::read_item;
 use record::reader::FIRST_ITEM;
 
-// A row for each group: its first item's number, and the item's place. A number that no item has stands for none.
-pub const NOTED: usize = 2;
+// An item's number, and its place.
+#[derive(Clone, Copy)]
+pub struct Noted {
+    pub number: u16,
+    pub place: usize,
+}
 
-pub type Firsts = [[usize; NOTED]; ITEMS];
+// For each group its first item, where one is noted.
+pub type Firsts = [Option<Noted>; ITEMS];
 
 // The first item of a group, with its number.
 #[derive(Clone, Copy)]
-pub enum First {
-    Item { item: Item, number: u16 },
-    Nothing,
+pub struct First {
+    pub item: Item,
+    pub number: u16,
 }
 
 // An item noted under a group, unless an earlier one is.
-fn note_under(group: u16, number: usize, place: usize, firsts: &mut Firsts)
-    ensures { firsts.new ≡ noted_under group number place firsts.old }
+#[tactic(auto, unfolding(crate::specs::Firsts::noted_under))]
+fn note_under(group: u16, item: Noted, firsts: &mut Firsts)
+    ensures { firsts.new ≡ noted_under group item firsts.old }
 {
     let row = group as usize;
     if row < ITEMS {
-        if firsts[row][0] >= ITEMS {
-            firsts[row] = [number, place];
+        if firsts[row].is_none() {
+            firsts[row] = Some(item);
         }
     }
 }
 
 // An item noted under its group, by its row of the trail.
+#[tactic(auto, unfolding(crate::specs::Firsts::noted))]
 fn note(trail: &Trail, number: usize, place: usize, firsts: &mut Firsts)
     ensures { firsts.new ≡ noted trail.now number place firsts.old }
 {
     if number < ITEMS {
-        note_under(trail[number][1], number, place, firsts);
+        let item = Noted {
+            number: number as u16,
+            place,
+        };
+        note_under(trail[number][1], item, firsts);
     }
 }
 
@@ -45,39 +56,29 @@ fn note(trail: &Trail, number: usize, place: usize, firsts: &mut Firsts)
 pub fn first_items(recorded: &[u8], header: Header, trail: &Trail, items: usize) -> Firsts
     ensures { result ≡ first_items header recorded.now trail.now items }
 {
-    let mut firsts = [[ITEMS; NOTED]; ITEMS];
+    let mut firsts = [None; ITEMS];
     let mut place = FIRST_ITEM;
-    let mut number = 0;
-    while number < items {
+    for number in 0..items {
         match read_item(recorded, place, header) {
-            ItemRead::Refused(_) => return firsts,
-            ItemRead::Read { next, item: _ } => {
+            Ok(read) => {
                 note(trail, number, place, &mut firsts);
-                place = next;
+                place = read.next;
             }
+            Err(_) => return firsts,
         }
-        number += 1;
     }
     firsts
 }
 
 // A group's first item, read again.
-pub fn first_of(recorded: &[u8], header: Header, firsts: &Firsts, group: u16) -> First
+#[tactic(auto, unfolding(crate::specs::Firsts::first_of))]
+pub fn first_of(recorded: &[u8], header: Header, firsts: &Firsts, group: u16) -> Option<First>
     ensures { result ≡ first_of header recorded.now firsts.now group }
 {
-    let row = group as usize;
-    if row >= ITEMS {
-        return First::Nothing;
-    }
-    let number = firsts[row][0];
-    if number >= ITEMS {
-        return First::Nothing;
-    }
-    match read_item(recorded, firsts[row][1], header) {
-        ItemRead::Refused(_) => First::Nothing,
-        ItemRead::Read { next: _, item } => First::Item {
-            item,
-            number: number as u16,
-        },
-    }
+    let noted = firsts.get(group as usize).copied().flatten()?;
+    let read = read_item(recorded, noted.place, header).ok()?;
+    Some(First {
+        item: read.value,
+        number: noted.number,
+    })
 }

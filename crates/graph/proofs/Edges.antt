@@ -1,4 +1,6 @@
 -- Arrows that were put into a table are read out again: as many as fit, and all of them where they are between the groups.
+use Rattle.std.specs.Prelude.{Some, slice_get}
+use Rattle.model.proofs.Options.{none-ne-some, some-injective}
 use Prim.Native.Nat.{ℕ, zero, suc, ◌+◌, ◌≤◌, ◌<◌}
 use mathlib.Core.Path.{◌≡◌, refl, sym, ap, ap₂, ◌∙◌}
 use mathlib.Core.Bool.{true}
@@ -6,37 +8,36 @@ use mathlib.Core.List.{List, [], ◌∷◌, ◌++◌, map, map-id}
 use mathlib.Core.List.Memᴰ.{head as here}
 use mathlib.Core.List.Memᴰ.{tail as there}
 use mathlib.Core.List.{Memᴰ as Member}
-use mathlib.Core.Option.{some, none-ne-some, some-injective}
 use native.Mathlib.Nat.{min-eq_left, add-zero}
 use native.Mathlib.Omega.{arith}
 use lib.Dec.{ltb}
-use lib.ListN.{length, get_or, get_elem?}
+use lib.ListN.{length, get_or}
 use borrow.Author.Tests.{lt-ltb, ltb-true, ltb-false}
 use Rattle.model.specs.Limits.{max_items, max_edges}
 use Rattle.model.specs.Choice.{select, numbers_from}
 use Rattle.model.specs.HappensBefore.{Edge}
 use Rattle.model.specs.Checks.{fill}
-use Rattle.model.proofs.Laws.{decided, and-true, get_elem?_bound}
+use Rattle.model.proofs.Laws.{decided, and-true, slice_get_bound}
 use Rattle.model.proofs.Selections.{select_within}
 use Rattle.memory.specs.Tables.{Table, zeros}
 use Rattle.graph.specs.Edges.{edges_size, source_at, target_at, edge_at, edges_in, edge_row, edge_table, groups_in, among, graph_in}
 
 -- What stands in front of other entries, each told by a function.
-front_at : {A B : Type 0} (tell : A → B) (l : List A) (rest : List B) (d : B) (i : ℕ) {a : A} → get_elem? l i ≡ some a →
+front_at : {A B : Type 0} (tell : A → B) (l : List A) (rest : List B) (d : B) (i : ℕ) {a : A} → slice_get l i ≡ Some a →
     get_or (map tell l ++ rest) i d ≡ tell a
 front_at tell [] rest d i h = absurd (none-ne-some _ h)
 front_at tell (x ∷ l) rest d zero h = ap tell (some-injective _ _ h)
 front_at tell (x ∷ l) rest d (suc i) h = front_at tell l rest d i h
 
 -- A list filled from the front has there what was told.
-pub filled_at : {A B : Type 0} (tell : A → B) (l : List A) (old : List B) (d : B) (i : ℕ) {a : A} → get_elem? l i ≡ some a →
+pub filled_at : {A B : Type 0} (tell : A → B) (l : List A) (old : List B) (d : B) (i : ℕ) {a : A} → slice_get l i ≡ Some a →
     get_or (fill (map tell l) old) i d ≡ tell a
 unfolding fill
 filled_at tell l old d i h = front_at tell l _ d i h
 
 -- What is read under each number, from a first one on, is a list where it is that list's.
 pub read_each : {A B : Type 0} (tell : A → B) (read : ℕ → B) (first : ℕ) (l : List A) →
-    ((i : ℕ) (a : A) → get_elem? l i ≡ some a → read (first + i) ≡ tell a) → map read (numbers_from first (length l)) ≡ map tell l
+    ((i : ℕ) (a : A) → slice_get l i ≡ Some a → read (first + i) ≡ tell a) → map read (numbers_from first (length l)) ≡ map tell l
 unfolding numbers_from
 read_each tell read first [] h = refl
 read_each tell read first (x ∷ l) h =
@@ -48,11 +49,11 @@ module _ (edges : List Edge) (old : Table) (fits : length edges ≤ max_edges) w
   abbrev filled_table : Table
   filled_table = fill (map edge_row edges) old
 
-  edge_at_lem : (i : ℕ) (e : Edge) → get_elem? edges i ≡ some e → edge_at filled_table i ≡ e
+  edge_at_lem : (i : ℕ) (e : Edge) → slice_get edges i ≡ Some e → edge_at filled_table i ≡ e
   unfolding source_at target_at
   edge_at_lem i e at =
       let row : get_or filled_table i [] ≡ edge_row e = filled_at edge_row edges old [] i at in
-      let inside : ltb i max_edges ≡ true = lt-ltb i max_edges (omega (arith, get_elem?_bound edges i at)) in
+      let inside : ltb i max_edges ≡ true = lt-ltb i max_edges (omega (arith, slice_get_bound edges i at)) in
       let from : source_at filled_table i ≡ e.from = rw (inside, row) in
       let to : target_at filled_table i ≡ e.to = rw (inside, row) in
       λ j. record { from = from j; to = to j }

@@ -1,14 +1,14 @@
 -- An accepted record's events can all be told, and its arrows fit the tables: the trail gives the arrows of the run, and the table of arrows all of
 -- them.
+use Rattle.std.specs.Prelude.{Option, Some, None}
 use Prim.Native.Nat.{ℕ, ◌≤◌, ◌<◌}
 use mathlib.Core.Path.{◌≡◌, ap, ◌∙◌}
 use mathlib.Core.List.{List}
-use mathlib.Core.Option.{Option, some, none}
 use native.Mathlib.Omega.{arith}
 use lib.ListN.{length}
 use Rattle.model.specs.declared.Header.{Header}
 use Rattle.model.specs.Limits.{max_items}
-use Rattle.model.specs.Refusals.{ok}
+use Rattle.model.specs.Refusals.{Ok}
 use Rattle.model.specs.Programs.{HeaderFits}
 use Rattle.model.specs.Machine.{Access}
 use Rattle.model.specs.Replay.{Event, Replayed}
@@ -23,7 +23,7 @@ use Rattle.ordering.proofs.Runs.{run_proper}
 use Rattle.graph.specs.Edges.{edge_table, graph_in}
 use Rattle.graph.proofs.Edges.{graph_whole}
 use Rattle.happens_before.specs.Told.{events_told}
-use Rattle.happens_before.specs.Drawn.{drawn_as}
+use Rattle.graph.specs.Drawn.{drawn_as}
 use Rattle.happens_before.proofs.Again.{Tellable, told_again}
 
 -- A run whose events can be told, with no more groups than events.
@@ -34,8 +34,8 @@ pub record TellableRun (run : Replayed) : Type 0 where
   pub opened : run.last.opened ≤ length run.events
 
 access_placed : {header : Header} → HeaderFits header → (access : Option Access) → AccessIn header access → Placed access
-access_placed fits none inside = tt
-access_placed fits (some a) inside =
+access_placed fits None inside = tt
+access_placed fits (Some a) inside =
     record {
       rank_held = record { first = inside.rank.low; last = omega (arith, inside.rank.high, fits.ranks_fit) };
       cell_held = omega (arith, inside.cell, fits.cells_fit);
@@ -60,7 +60,7 @@ bounds_tellable run fits few b =
       opened = omega (arith, b.most);
     }
 
-pub accepted_tellable : (program start recorded : List ℕ) (a : Accepted) → accept program start recorded ≡ ok a → TellableRun a.run
+pub accepted_tellable : (program start recorded : List ℕ) (a : Accepted) → accept program start recorded ≡ Ok a → TellableRun a.run
 accepted_tellable program start recorded a h =
     let b = accepted_bounds program start recorded a h in bounds_tellable a.run b.header b.few b.bounds
 

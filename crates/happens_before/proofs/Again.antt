@@ -1,15 +1,15 @@
 -- What the replay hands over tells as much of each event as its arrows depend on: the rank of a command, the group, the cell by a number of its own,
 -- and whether it is written. So the arrows of the events that a trail tells of are the arrows of the run.
-use Prim.Native.Nat.{ℕ, ◌+◌, ◌*◌, ◌/◌, ◌%◌, ◌≤◌, ◌<◌}
+use Rattle.std.specs.Prelude.{Option, Some, None}
+use Prim.Native.Nat.{ℕ, zero, suc, ◌+◌, ◌*◌, ◌/◌, ◌%◌, ◌≤◌, ◌<◌}
 use mathlib.Core.Path.{◌≡◌, refl, sym, ap, ◌∙◌}
 use mathlib.Core.Bool.{Bool, true, false, ◌&&◌, false≢true}
 use mathlib.Core.List.{List, [], map}
-use mathlib.Core.Option.{Option, some, none}
 use native.Mathlib.Nat.{min-eq_left, div-add-mod', mod-lt}
 use native.Mathlib.Omega.{arith}
 use lib.Dec.{eqb}
 use lib.ListN.{length}
-use borrow.Author.Tests.{eq-eqb, ne_eqb, lt-ltb, le-leb}
+use borrow.Author.Tests.{eq-eqb, ne_eqb, lt-ltb}
 use Rattle.model.specs.declared.Address.{Address}
 use Rattle.model.specs.Limits.{max_ranks, max_items}
 use Rattle.model.specs.Choice.{numbers_from}
@@ -27,7 +27,19 @@ use Rattle.items.proofs.Accesses.{Placed}
 use Rattle.trails.specs.Trails.{command_rank, row_of_event, trail_of, trail_size}
 use Rattle.graph.proofs.Edges.{filled_at, read_each}
 use Rattle.ordering.proofs.Retold.{Retells, Throughout, events_retold}
-use Rattle.happens_before.specs.Told.{max_addresses, at_most, told_in, told_at, kind_told, access_told, event_told, events_told}
+use Rattle.happens_before.specs.declared.rows.Touch.{Touch}
+use Rattle.happens_before.specs.Told.{
+  max_addresses,
+  named,
+  touch_in,
+  told_in,
+  told_at,
+  kind_told,
+  rank_told,
+  access_told,
+  event_told,
+  events_told,
+}
 
 -- An event of which a row can tell: a command's rank, the group and the cell are ones that the arrays have.
 pub record Tellable (e : Event) : Type 0 where
@@ -35,63 +47,66 @@ pub record Tellable (e : Event) : Type 0 where
   pub group : e.group < max_items
   pub access : Placed e.access
 
--- An access as it is told: the cell by a number from 1 on.
-abbrev numbered : Option Access → ℕ
-numbered none = 0
-numbered (some a) = 1 + address_number a.address
-
-abbrev writing : Option Access → Bool
-writing none = true
-writing (some a) = a.writes
-
--- A number that is in its range is told.
-at_most_lem : (limit number : ℕ) → number ≤ limit → at_most limit number ≡ number
-at_most_lem limit number h = rw (le-leb number limit h)
+-- An access as it is told: the cell by its number.
+abbrev numbered : Option Access → Option Touch
+numbered None = None
+numbered (Some a) = Some (record { cell = address_number a.address; writes = a.writes })
 
 -- Half of an access's number is the cell's, and what is left says whether it is written.
 record Halves (number cell : ℕ) (writes : Bool) : Type 0 where
-  half : (number + 1) / 2 ≡ cell
-  left : eqb (number % 2) 0 ≡ writes
+  half : number / 2 ≡ cell
+  left : eqb (number % 2) 1 ≡ writes
 
 two : 0 < 2
 two = omega arith
 
-access_halves : (n : ℕ) (writes : Bool) → Halves (1 + n * 2 + truth writes) (1 + n) writes
+access_halves : (n : ℕ) (writes : Bool) → Halves (n * 2 + truth writes) n writes
 access_halves n true =
-    let whole = 1 + n * 2 + 1 in
-    let even : whole % 2 ≡ 0 = omega (arith, div-add-mod' whole 2, mod-lt whole two) in
-    record { half = omega (arith, div-add-mod' (whole + 1) 2, mod-lt (whole + 1) two); left = eq-eqb (whole % 2) 0 even }
-access_halves n false =
-    let whole = 1 + n * 2 + 0 in
+    let whole = n * 2 + 1 in
     let odd : whole % 2 ≡ 1 = omega (arith, div-add-mod' whole 2, mod-lt whole two) in
-    record { half = omega (arith, div-add-mod' (whole + 1) 2, mod-lt (whole + 1) two); left = ne_eqb (whole % 2) 0 (omega arith) }
+    record { half = omega (arith, div-add-mod' whole 2, mod-lt whole two); left = eq-eqb (whole % 2) 1 odd }
+access_halves n false =
+    let whole = n * 2 + 0 in
+    let even : whole % 2 ≡ 0 = omega (arith, div-add-mod' whole 2, mod-lt whole two) in
+    record { half = omega (arith, div-add-mod' whole 2, mod-lt whole two); left = ne_eqb (whole % 2) 1 (omega arith) }
 
-halves : (access : Option Access) → Halves (access_number access) (numbered access) (writing access)
-halves none = record { half = refl; left = refl }
-halves (some a) = access_halves (address_number a.address) a.writes
-
--- The cells' numbers are within what the code has entries for, and no two cells have one.
+-- The cells' numbers are within what the code has entries for, so an access is told.
 address_below : (a : Address) → Place a → address_number a < max_addresses
 address_below a p = omega (arith, p.rank_held.first, p.rank_held.last, p.cell_held)
 
-numbered_fits : (access : Option Access) → Placed access → numbered access ≤ max_addresses
-numbered_fits none p = omega arith
-numbered_fits (some a) p = omega (arith, address_below a.address p)
+touch_told : (access : Option Access) → Placed access → touch_in (access_number access) ≡ numbered access
+touch_told None p = refl
+touch_told (Some a) p =
+    let number = address_number a.address * 2 + truth a.writes in
+    let one : access_number (Some a) ≡ suc number = omega arith in
+    let halves = access_halves (address_number a.address) a.writes in
+    let below : number < 2 * max_addresses = omega (arith, address_below a.address p, halves.half, div-add-mod' number 2, mod-lt number two) in
+    ap touch_in one ∙ rw (lt-ltb number (2 * max_addresses) below, halves.half, halves.left)
 
+-- No two cells have one number.
 same_number : (a b : Address) → Place a → Place b →
-    same_address (address 0 (1 + address_number a)) (address 0 (1 + address_number b)) ≡ same_address a b
+    same_address (address 0 (suc (address_number a))) (address 0 (suc (address_number b))) ≡ same_address a b
 same_number a b p q =
     decided (same_address a b)
-    (λ same. let e = same_address_true a b same in eq-eqb (1 + address_number a) (1 + address_number b) (ap (λ c. 1 + address_number c) e) ∙ sym same)
-    (λ other. ne_eqb (1 + address_number a) (1 + address_number b) (λ e. false≢true (sym other ∙ one_cell e)) ∙ sym other)
+    (λ same. let e = same_address_true a b same in eq-eqb (suc (address_number a)) (suc (address_number b)) (ap (λ c. suc (address_number c)) e) ∙ sym same)
+    (λ other. ne_eqb (suc (address_number a)) (suc (address_number b)) (λ e. false≢true (sym other ∙ one_cell (omega arith))) ∙ sym other)
   where
-    one_cell : 1 + address_number a ≡ 1 + address_number b → same_address a b ≡ true
+    one_cell : address_number a ≡ address_number b → same_address a b ≡ true
     one_cell e =
         let pa = p.rank_held in
         let pb = q.rank_held in
         let ca = p.cell_held in
         let cb = q.cell_held in
         true_and _ _ (eq-eqb a.rank b.rank (omega arith)) (eq-eqb a.cell b.cell (omega arith))
+
+-- A rank is told, and 0 tells none.
+rank_again : (rank : ℕ) → rank ≤ max_ranks → rank_told (named max_ranks rank) ≡ rank
+rank_again zero h = refl
+rank_again (suc rank) h = rw (lt-ltb rank max_ranks (omega arith))
+
+rank_command : (rank : ℕ) → 0 < rank → rank ≤ max_ranks → is_command_kind (kind_told (named max_ranks rank)) ≡ true
+rank_command zero l h = absurd (omega arith)
+rank_command (suc rank) l h = rw (lt-ltb rank max_ranks (omega arith))
 
 -- A command's rank is told, and for a pop 0.
 module _ (e : Event) (t : Tellable e) where
@@ -104,37 +119,23 @@ module _ (e : Event) (t : Tellable e) where
   rank_fits : command_rank e.item ≤ max_ranks
   rank_fits = decided (is_command e) (λ c. rw (rank_own c) (t.rank c).last) (λ c. rw (rank_none c) (omega arith))
 
-  command_told : is_command_kind (kind_told (command_rank e.item)) ≡ is_command e
+  command_told : is_command_kind (kind_told (named max_ranks (command_rank e.item))) ≡ is_command e
   command_told =
       decided (is_command e)
-      (λ c. rw (rank_own c, ne_eqb (rank_of e) 0 (omega (arith, (t.rank c).first))) (sym c))
+      (λ c. rw (rank_own c) (rank_command (rank_of e) (t.rank c).first (t.rank c).last ∙ sym c))
       (λ c. rw (rank_none c) (sym c))
 
   -- What a row tells of the event.
-  told_row : told_in (row_of_event e)
-      ≡ record { rank = command_rank e.item; group = e.group; address = numbered e.access; writes = writing e.access }
+  told_row : told_in (row_of_event e) ≡ record { rank = named max_ranks (command_rank e.item); group = e.group; access = numbered e.access }
   unfolding told_in
-  told_row =
-      rw (
-        lt-ltb e.group max_items t.group,
-        (halves e.access).half,
-        (halves e.access).left,
-        at_most_lem max_ranks (command_rank e.item) rank_fits,
-        at_most_lem max_addresses (numbered e.access) (numbered_fits e.access t.access),
-      )
+  told_row = rw (lt-ltb e.group max_items t.group, touch_told e.access t.access)
 
 -- The event that an event's row tells of, and its access.
 retold : Event → Event
 retold e = event_told (told_in (row_of_event e))
 
-renumbered : Option Access → Option Access
-renumbered none = none
-renumbered (some a) = some (record { writes = a.writes; address = address 0 (1 + address_number a.address); value = 0 })
-
-access_renumbered : (access : Option Access) → access_told (numbered access) (writing access) ≡ renumbered access
-unfolding renumbered
-access_renumbered none = refl
-access_renumbered (some a) = rw (ne_eqb (1 + address_number a.address) 0 (omega arith))
+abbrev renumbered : Option Access → Option Access
+renumbered access = access_told (numbered access)
 
 -- What it keeps.
 record Kept (e : Event) : Type 0 where
@@ -149,23 +150,23 @@ kept e t =
     let row = ap event_told (told_row e t) in
     record {
       command = ap is_command row ∙ command_told e t;
-      rank = ap rank_of row;
+      rank = ap rank_of row ∙ rank_again (command_rank e.item) (rank_fits e t);
       group = ap (λ (e : Event). e.group) row;
-      access = ap (λ (e : Event). e.access) row ∙ access_renumbered e.access;
+      access = ap (λ (e : Event). e.access) row;
     }
 
 -- Cells are told apart as before, so accesses conflict and overwrite as before.
 conflict_kept : (x y : Option Access) → Placed x → Placed y → conflict (renumbered x) (renumbered y) ≡ conflict x y
-unfolding conflict renumbered
-conflict_kept none y p q = refl
-conflict_kept (some a) none p q = refl
-conflict_kept (some a) (some b) p q = ap (λ same. same && either_writes a b) (same_number a.address b.address p q)
+unfolding conflict
+conflict_kept None y p q = refl
+conflict_kept (Some a) None p q = refl
+conflict_kept (Some a) (Some b) p q = ap (λ same. same && either_writes a b) (same_number a.address b.address p q)
 
 overwrites_kept : (x y : Option Access) → Placed x → Placed y → overwrites (renumbered x) (renumbered y) ≡ overwrites x y
-unfolding overwrites renumbered
-overwrites_kept none y p q = refl
-overwrites_kept (some a) none p q = refl
-overwrites_kept (some a) (some b) p q = ap (λ same. same && a.writes) (same_number a.address b.address p q)
+unfolding overwrites
+overwrites_kept None y p q = refl
+overwrites_kept (Some a) None p q = refl
+overwrites_kept (Some a) (Some b) p q = ap (λ same. same && a.writes) (same_number a.address b.address p q)
 
 sequence_kept : (x y : Event) → Tellable x → Tellable y → same_sequence (retold x) (retold y) ≡ same_sequence x y
 unfolding same_sequence

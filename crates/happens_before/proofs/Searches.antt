@@ -1,11 +1,12 @@
 -- The model's search back through the events ends at the last item that passes a test, or lists the items since a cell's last write. Both are found
 -- by item numbers alone.
-use Prim.Native.Nat.{ℕ, zero, suc, ◌-◌, ◌≤◌, ◌<◌}
+use Rattle.std.specs.Prelude.{Option, Some, None}
+use Prim.Native.Nat.{ℕ, zero, suc, ◌≤◌, ◌<◌}
 use mathlib.Core.Path.{◌≡◌, refl, sym, ap, ◌∙◌}
 use mathlib.Core.Bool.{Bool, false, ◌&&◌}
 use mathlib.Core.List.{List, [], ◌∷◌, ◌++◌, append-nil}
 use native.Mathlib.Omega.{arith}
-use borrow.Author.Tests.{lt-ltb, ne_eqb}
+use borrow.Author.Tests.{lt-ltb}
 use Rattle.model.specs.Limits.{max_items}
 use Rattle.model.specs.Choice.{when}
 use Rattle.model.specs.Replay.{Event}
@@ -13,12 +14,12 @@ use Rattle.model.specs.HappensBefore.{same_sequence, overwrites, conflict, edges
 use Rattle.model.proofs.Laws.{decided}
 use Rattle.memory.specs.Tables.{Table}
 use Rattle.happens_before.specs.Told.{told_in, told_at, event_told}
-use Rattle.happens_before.specs.Drawing.{group_at, between, from_name, from_each}
+use Rattle.happens_before.specs.Drawing.{group_at, between, from_item, from_each}
 
--- The name of the last of the first items that passes a test; 0 where none does.
-unfoldable pub latest : (test : ℕ → Bool) → (items : ℕ) → ℕ
-latest test zero = 0
-latest test (suc item) = when (test item) (λ _. suc item) (λ _. latest test item)
+-- The last of the first items that passes a test, if one does.
+unfoldable pub latest : (test : ℕ → Bool) → (items : ℕ) → Option ℕ
+latest test zero = None
+latest test (suc item) = when (test item) (λ _. Some item) (λ _. latest test item)
 
 -- Of the first items those that pass a test, the newest first, down to the first one that also ends the search.
 unfoldable pub since : (test ends : ℕ → Bool) → (items : ℕ) → List ℕ
@@ -37,30 +38,30 @@ module _ (trail : Table) where
   unfolding event_told told_in group_at between
   edges_told item b y = rw (lt-ltb _ _ b)
 
-  name_told : (item : ℕ) (to : ℕ) → from_name trail (suc item) to ≡ between (group_at trail item) to
-  unfolding from_name between group_at
-  name_told item to = let e : suc item - 1 ≡ item = omega arith in rw (ne_eqb (suc item) 0 (λ z. omega arith), e)
+  item_told : (item : ℕ) (to : ℕ) → from_item trail (Some item) to ≡ between (group_at trail item) to
+  unfolding from_item
+  item_told item to = refl
 
   module _ (y : Event) (test : ℕ → Bool) where
     -- By program order.
     pub program_search : ((item : ℕ) → same_sequence (event_told (told_at trail item)) y ≡ test item) →
-        (items : ℕ) → items ≤ max_items → program_edges y (before items) ≡ from_name trail (latest test items) y.group
-    unfolding program_edges before latest from_name
+        (items : ℕ) → items ≤ max_items → program_edges y (before items) ≡ from_item trail (latest test items) y.group
+    unfolding program_edges before latest from_item
     program_search same zero b = refl
     program_search same (suc item) b =
         decided (test item)
-        (λ t. rw (same item, t) (edges_told item (omega arith) y ∙ sym (name_told item y.group)))
+        (λ t. rw (same item, t) (edges_told item (omega arith) y ∙ sym (item_told item y.group)))
         (λ t. rw (same item, t) (program_search same item (omega arith)))
 
     -- By conflict, where the test ends the search: a read's.
     pub read_search : ((item : ℕ) → conflict (event_told (told_at trail item)).access y.access ≡ test item) →
         ((item : ℕ) → overwrites (event_told (told_at trail item)).access y.access ≡ test item) →
-        (items : ℕ) → items ≤ max_items → conflict_edges y (before items) ≡ from_name trail (latest test items) y.group
-    unfolding conflict_edges before latest from_name
+        (items : ℕ) → items ≤ max_items → conflict_edges y (before items) ≡ from_item trail (latest test items) y.group
+    unfolding conflict_edges before latest from_item
     read_search same ends zero b = refl
     read_search same ends (suc item) b =
         decided (test item)
-        (λ t. rw (same item, ends item, t) (append-nil (edges (event_told (told_at trail item)) y) ∙ edges_told item (omega arith) y ∙ sym (name_told item y.group)))
+        (λ t. rw (same item, ends item, t) (append-nil (edges (event_told (told_at trail item)) y) ∙ edges_told item (omega arith) y ∙ sym (item_told item y.group)))
         (λ t. rw (same item, ends item, t) (read_search same ends item (omega arith)))
 
     -- By conflict, where only writes end the search: a write's.

@@ -11,8 +11,9 @@ use Rattle.model.specs.Checks.{fill}
 use Rattle.memory.specs.Tables.{Table, zeros}
 use Rattle.memory.proofs.Filled.{fill_more}
 use Rattle.graph.specs.Edges.{edges_size, edge_row, edge_table}
-use Rattle.happens_before.specs.Drawn.{Drawn, drawn, none_drawn, drawn_as}
-use Rattle.happens_before.specs.Drawing.{one_more, added}
+use Rattle.graph.specs.declared.Drawn.{Drawn}
+use Rattle.graph.specs.Drawn.{drawn, none_drawn, drawn_as, one_more}
+use Rattle.happens_before.specs.Drawing.{added}
 
 pub added_append : (first then : List Edge) (d : Drawn) → added (first ++ then) d ≡ added then (added first d)
 unfolding added

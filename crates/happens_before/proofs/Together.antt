@@ -14,8 +14,10 @@ use Rattle.ordering.proofs.Counting.{edges_count}
 use Rattle.memory.specs.Tables.{Table}
 use Rattle.memory.proofs.Filled.{numbers_length}
 use Rattle.happens_before.specs.Told.{told_at, event_told, events_told}
-use Rattle.happens_before.specs.Drawn.{Drawn, none_drawn, drawn_as}
-use Rattle.happens_before.specs.Drawing.{Kept, kept_none, Inside, added, edges_into, kept_after, drawn_from}
+use Rattle.graph.specs.declared.Drawn.{Drawn}
+use Rattle.graph.specs.Drawn.{none_drawn, drawn_as}
+use Rattle.happens_before.specs.declared.kept.Kept.{Kept}
+use Rattle.happens_before.specs.Drawing.{kept_none, Inside, added, edges_into, kept_after, drawn_from}
 use Rattle.happens_before.proofs.Sheets.{added_append, added_all}
 use Rattle.happens_before.proofs.Searches.{before}
 use Rattle.happens_before.proofs.Standing.{Stands, stands_none, edges_into_lem}
@@ -29,7 +31,7 @@ module _ (trail : Table) where
   rest left item = map event (numbers_from item left)
 
   -- No item, and one item and then the others.
-  pub drawn_none : (item : ℕ) (k : Kept) (d : Drawn) → drawn_from zero item trail k d ≡ d
+  pub drawn_none : {cells : ℕ} (item : ℕ) (k : Kept cells) (d : Drawn) → drawn_from zero item trail k d ≡ d
   unfolding drawn_from
   drawn_none item k d = refl
 
@@ -37,7 +39,7 @@ module _ (trail : Table) where
   unfolding added edges_from numbers_from
   edges_none item d = refl
 
-  pub drawn_step : (left item : ℕ) (k : Kept) (d : Drawn) →
+  pub drawn_step : {cells : ℕ} (left item : ℕ) (k : Kept cells) (d : Drawn) →
       drawn_from (suc left) item trail k d ≡ drawn_from left (item + 1) trail (kept_after trail item k) (added (edges_into trail item k) d)
   unfolding drawn_from
   drawn_step left item k d = refl
@@ -49,19 +51,19 @@ module _ (trail : Table) where
   unfolding edges_from numbers_from before
   edges_step left item = refl
 
-  drawn_from_lem : {cells : ℕ} (left item : ℕ) → item + left ≤ max_items → Inside cells trail (item + left) → (k : Kept) → Stands cells trail item k →
+  drawn_from_lem : {cells : ℕ} (left item : ℕ) → item + left ≤ max_items → Inside cells trail (item + left) → (k : Kept cells) → Stands trail item k →
       (d : Drawn) → drawn_from left item trail k d ≡ added (edges_from (before trail item) (rest left item)) d
   drawn_from_lem zero item within inside k stands d = drawn_none item k d ∙ sym (edges_none item d)
   drawn_from_lem {cells} (suc left) item within inside k stands d =
       let here : item < max_items = omega (arith, within) in
-      let own : (told_at trail item).address ≤ cells = inside.within item (omega arith) in
-      let next : Stands cells trail (item + 1) (kept_after trail item k) =
-      subst (λ n. Stands cells trail n (kept_after trail item k)) (sym (add-one item)) (stands_next trail item here own k stands) in
+      let own = inside item (omega arith) in
+      let next : Stands trail (item + 1) (kept_after trail item k) =
+      subst (λ n. Stands trail n (kept_after trail item k)) (sym (add-one item)) (stands_next trail item here own k stands) in
       let program : List Edge = program_edges (event item) (before trail item) in
       let conflicts : List Edge = conflict_edges (event item) (before trail item) in
       let others : List Edge = edges_from (before trail (item + 1)) (rest left (item + 1)) in
       drawn_step left item k d
-      ∙ drawn_from_lem left (item + 1) (omega (arith, within)) (record { within = λ i h. inside.within i (omega (arith, h)) }) (kept_after trail item k) next (added (edges_into trail item k) d)
+      ∙ drawn_from_lem left (item + 1) (omega (arith, within)) (λ i h. inside i (omega (arith, h))) (kept_after trail item k) next (added (edges_into trail item k) d)
       ∙ ap (λ es. added others (added es d)) (edges_into_lem trail item here own k stands)
       ∙ sym (added_append (program ++ conflicts) others d)
       ∙ ap (λ es. added es d) (append_assoc program conflicts others)
@@ -82,7 +84,7 @@ module _ (trail : Table) where
   pub drawn_all : (cells items : ℕ) → Inside cells trail (min items max_items) → (d : Drawn) →
       drawn_from (min items max_items) 0 trail (kept_none cells) d ≡ added (edges_of (events_told items trail)) d
   drawn_all cells items inside d =
-      drawn_from_lem (min items max_items) 0 (omega (arith, min-le_right items max_items)) (record { within = λ i h. inside.within i (omega (arith, h)) })
+      drawn_from_lem (min items max_items) 0 (omega (arith, min-le_right items max_items)) (λ i h. inside i (omega (arith, h)))
       (kept_none cells) (stands_none cells trail) d
       ∙ ap (λ es. added es d) (edges_all items)
 

@@ -1,120 +1,79 @@
-// Arrows into a group, drawn in a table's next rows while there is room. Each function answers how many arrows the table has then.
+// Arrows into a group, drawn while there is room.
 ghost use Rattle.std.specs.Prelude.{◌≡◌};
 ghost use Rattle.chains.specs.Chains.{members};
-ghost use Rattle.happens_before.specs.Drawn.{drawn};
 ghost use Rattle.happens_before.specs.Drawing.{
-  accessed,
   added,
   between,
-  from_name,
+  from_item,
   from_each,
   program_into,
   conflicts_into,
 };
 
-use crate::numbers::number_at;
+use crate::kept::{Accesses, Kept};
 use crate::rows::{Told, group_at};
 use chains::older;
-use graph::{EDGES, Edges};
+use graph::Drawn;
 use model::Trail;
 
 // "An arrow goes from one group to another, different, group."
-fn draw(from: u16, to: u16, edges: &mut Edges, count: usize) -> usize
-    ensures { drawn result edges.new ≡ added (between from to) (drawn count edges.old) }
+#[tactic(auto, unfolding(crate::specs::Drawing::added, crate::specs::Drawing::between))]
+fn draw(from: u16, to: u16, drawn: &mut Drawn)
+    ensures { drawn.new ≡ added (between from to) drawn.old }
 {
-    if from == to {
-        return count;
+    if from != to {
+        drawn.draw(from, to);
     }
-    if count < EDGES {
-        edges[count] = [from, to];
-        return count + 1;
-    }
-    count
 }
 
-// The arrow from an item, which is named by its number plus 1; none where the name is 0.
-fn draw_from(trail: &Trail, name: u16, to: u16, edges: &mut Edges, count: usize) -> usize
-    ensures { drawn result edges.new ≡
-        added (from_name trail.now name to) (drawn count edges.old) }
+// The arrow from an item, if there is one.
+#[tactic(auto, unfolding(crate::specs::Drawing::added, crate::specs::Drawing::from_item))]
+fn draw_from(trail: &Trail, item: Option<u16>, to: u16, drawn: &mut Drawn)
+    ensures { drawn.new ≡ added (from_item trail.now item to) drawn.old }
 {
-    if name == 0 {
-        return count;
+    if let Some(item) = item {
+        draw(group_at(trail, usize::from(item)), to, drawn);
     }
-    draw(group_at(trail, name as usize - 1), to, edges, count)
 }
 
 // The arrow from each item of a list, the newest first.
-fn draw_each(
-    trail: &Trail,
-    links: &[u16],
-    newest: u16,
-    to: u16,
-    edges: &mut Edges,
-    count: usize,
-) -> usize
-    ensures { drawn result edges.new ≡
-        added (from_each trail.now (members links.now newest) to) (drawn count edges.old) }
+fn draw_each(trail: &Trail, links: &[u16], newest: u16, to: u16, drawn: &mut Drawn)
+    ensures { drawn.new ≡ added (from_each trail.now (members links.now newest) to) drawn.old }
 {
     let mut member = newest;
-    let mut drawn = count;
     while member != 0 {
-        drawn = draw_from(trail, member, to, edges, drawn);
+        draw(group_at(trail, usize::from(member - 1)), to, drawn);
         member = older(links, member);
     }
-    drawn
 }
 
-// "by program order": the arrow from the last command of the item's rank.
-pub fn draw_program(
-    trail: &Trail,
-    told: Told,
-    commands: &[u16],
-    edges: &mut Edges,
-    count: usize,
-) -> usize
-    ensures { drawn result edges.new ≡
-        added (program_into trail.now commands.now told) (drawn count edges.old) }
-{
-    let rank = told.rank;
-    if rank == 0 {
-        return count;
+impl<const CELLS: usize> Kept<CELLS> {
+    // "by program order": the arrow from the last command of the item's rank.
+    #[tactic(auto, unfolding(crate::specs::Drawing::added, crate::specs::Drawing::program_into))]
+    pub fn draw_program(&self, trail: &Trail, told: Told, drawn: &mut Drawn)
+        ensures { drawn.new ≡ added (program_into trail.now self.now.commands told) drawn.old }
+    {
+        if let Some(rank) = told.rank {
+            let last = self.commands.get(rank).copied().flatten();
+            draw_from(trail, last, told.group, drawn);
+        }
     }
-    draw_from(
-        trail,
-        number_at(commands, rank - 1),
-        told.group,
-        edges,
-        count,
-    )
 }
 
-// "by conflict": a write gets an arrow from each access since the cell's last write, itself included, and a read gets one from that write alone.
-pub fn draw_conflicts(
-    trail: &Trail,
-    told: Told,
-    writes: &[u16],
-    newest: &[u16],
-    links: &[u16],
-    edges: &mut Edges,
-    count: usize,
-) -> usize
-    ensures { drawn result edges.new ≡
-        added (conflicts_into trail.now (accessed writes.now newest.now links.now) told)
-        (drawn count edges.old) }
-{
-    let address = told.address;
-    if address == 0 {
-        return count;
+impl<const CELLS: usize> Accesses<CELLS> {
+    // "by conflict": a write gets an arrow from each access since the cell's last write, itself included, and a read gets one from that write alone.
+    #[tactic(auto, unfolding(crate::specs::Drawing::added, crate::specs::Drawing::conflicts_into))]
+    pub fn draw_conflicts(&self, trail: &Trail, told: Told, drawn: &mut Drawn)
+        ensures { drawn.new ≡ added (conflicts_into trail.now self.now told) drawn.old }
+    {
+        if let Some(touch) = told.access {
+            if touch.writes {
+                let newest = self.newest.get(touch.cell).copied().unwrap_or(0);
+                draw_each(trail, &self.links, newest, told.group, drawn);
+            } else {
+                let last = self.writes.get(touch.cell).copied().flatten();
+                draw_from(trail, last, told.group, drawn);
+            }
+        }
     }
-    if told.writes {
-        let last = number_at(newest, address - 1);
-        return draw_each(trail, links, last, told.group, edges, count);
-    }
-    draw_from(
-        trail,
-        number_at(writes, address - 1),
-        told.group,
-        edges,
-        count,
-    )
 }

@@ -17,7 +17,8 @@ use Rattle.memory.proofs.Filled.{numbers_length, list_of}
 use Rattle.chains.specs.Chains.{heads_after, links_after}
 use Rattle.graph.specs.Edges.{edge_at, source_at, target_at, among}
 use Rattle.indexing.specs.Degrees.{in_degree, in_degrees, by_group}
-use Rattle.indexing.specs.Indexes.{Index, index, empty_index, raised, indexed_edge, indexed_edges}
+use Rattle.indexing.specs.declared.Index.{Index}
+use Rattle.indexing.specs.Indexes.{index, empty_index, raised, indexed_edge, indexed_edges}
 use Rattle.indexing.specs.Indexed.{graph_to, in_graph, Indexed}
 use Rattle.indexing.proofs.Selecting.{count_within, numbers_last}
 use Rattle.indexing.proofs.ByKey.{lists_none, lists_skipped, lists_noted}

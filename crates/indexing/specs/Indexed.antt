@@ -8,7 +8,7 @@ use Rattle.memory.specs.Tables.{Table}
 use Rattle.chains.specs.Chains.{Listed}
 use Rattle.graph.specs.Edges.{edge_at, source_at, target_at, among}
 use Rattle.indexing.specs.Degrees.{in_degrees}
-use Rattle.indexing.specs.Indexes.{Index}
+use Rattle.indexing.specs.declared.Index.{Index}
 
 -- Of the numbers below a count those that pass a test and have one key, the last first.
 unfoldable pub numbers_by : (test : ℕ → Bool) → (key : ℕ → ℕ) → (count group : ℕ) → List ℕ

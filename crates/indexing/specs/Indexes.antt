@@ -7,13 +7,9 @@ use Rattle.memory.specs.Tables.{Table}
 use Rattle.chains.specs.Chains.{heads_after, links_after}
 use Rattle.bitmap.specs.Bitmaps.{inserted}
 use Rattle.graph.specs.Edges.{edge_at, source_at, target_at, among}
+use Rattle.indexing.specs.declared.Index.{Index}
 
 -- The lists by group, and the counts.
-pub record Index : Type 0 where
-  pub heads : List ℕ
-  pub links : List ℕ
-  pub waiting : List ℕ
-
 abbrev pub index : (heads links waiting : List ℕ) → Index
 index heads links waiting = record { heads = heads; links = links; waiting = waiting }
 

@@ -1,7 +1,7 @@
 -- Accesses: what the code tells of a cell that the arrays have is the access's number.
+use Rattle.std.specs.Prelude.{Option, Some, None}
 use mathlib.Core.Path.{◌≡◌, refl}
 use mathlib.Core.Bool.{true}
-use mathlib.Core.Option.{Option, some, none}
 use lib.Dec.{leb, ltb}
 use borrow.Author.Tests.{ltb-true, leb-true, lt-ltb, le-leb}
 use Rattle.model.specs.declared.Address.{Address}
@@ -23,13 +23,13 @@ held_place a h =
 
 -- The cell of an access, if there is one, is one that the arrays have.
 abbrev pub Placed : Option Access → Type 0
-Placed none = Unit {0}
-Placed (some a) = Place a.address
+Placed None = Unit {0}
+Placed (Some a) = Place a.address
 
 pub told_number : (access : Option Access) → Placed access → access_number access ≡ access_told access
 unfolding access_told
-told_number none p = refl
-told_number (some a) p =
+told_number None p = refl
+told_number (Some a) p =
     rw (
       le-leb 1 a.address.rank p.rank_held.first,
       le-leb a.address.rank max_ranks p.rank_held.last,

@@ -1,55 +1,29 @@
-// An item's access: what it reads or writes, whether the item says the same of it, and what the drawing of arrows needs of it.
+// An item's access: whether the item says the same of it, and what the drawing of arrows needs of it.
 ghost use Rattle.std.specs.Prelude.{◌≡◌};
-ghost use Rattle.model.specs.Replay.{agrees, same_address, agrees_with};
-ghost use Rattle.items.specs.Accesses.{access_in, held, access_told};
+ghost use Rattle.model.specs.Replay.{agrees, agrees_with};
+ghost use Rattle.items.specs.Accesses.{held, access_told};
 
-use model::{Address, CELLS, Given, Item, RANKS};
-
-// The cell that an item accesses, with the value read or written there; most items access none.
-#[derive(Clone, Copy)]
-pub enum Accessed {
-    Nothing,
-    Cell {
-        writes: bool,
-        place: Address,
-        value: u16,
-    },
-}
+use model::{Access, Address, CELLS, Item, RANKS};
 
 // "An absent value is not checked."
-fn agrees(given: Given, value: u16) -> bool
+#[tactic(auto, unfolding(model::specs::Replay::agrees))]
+fn agrees(given: Option<u16>, value: u16) -> bool
     ensures { result ≡ agrees given value }
 {
     match given {
-        Given::Value(expected) => expected == value,
-        Given::Absent => true,
+        Some(expected) => expected == value,
+        None => true,
     }
 }
 
-fn same_address(a: Address, b: Address) -> bool
-    ensures { result ≡ same_address a b }
-{
-    a.rank == b.rank && a.cell == b.cell
-}
-
 // "place or given value differs from the replay"
-pub fn agrees_with(item: Item, access: Accessed) -> bool
-    ensures { result ≡ agrees_with item (access_in access) }
+#[tactic(auto, unfolding(model::specs::Replay::agrees_with))]
+pub fn agrees_with(item: Item, access: Option<Access>) -> bool
+    ensures { result ≡ agrees_with item access }
 {
-    let Accessed::Cell {
-        writes: _,
-        place,
-        value,
-    } = access
-    else {
-        return true;
-    };
-    let given = item.given;
-    let named = item.place;
-    if same_address(named, place) {
-        agrees(given, value)
-    } else {
-        false
+    match access {
+        Some(access) => item.place == access.address && agrees(item.given, access.value),
+        None => true,
     }
 }
 
@@ -57,38 +31,26 @@ pub fn agrees_with(item: Item, access: Accessed) -> bool
 fn held(place: Address) -> bool
     ensures { result ≡ held place }
 {
-    let rank = place.rank as usize;
-    let cell = place.cell as usize;
-    if rank < 1 {
-        return false;
-    }
-    if RANKS < rank {
-        return false;
-    }
-    cell < CELLS
+    let rank = usize::from(place.rank);
+    1 <= rank && rank <= RANKS && usize::from(place.cell) < CELLS
 }
 
 // The number of an access: 0 for none, and else which cell and whether it writes.
-pub fn access_number(access: Accessed) -> u16
-    ensures { result ≡ access_told (access_in access) }
+#[tactic(auto, unfolding(crate::specs::Accesses::access_told))]
+pub fn access_number(access: Option<Access>) -> u16
+    ensures { result ≡ access_told access }
 {
-    let Accessed::Cell {
-        writes,
-        place,
-        value: _,
-    } = access
-    else {
-        return 0;
-    };
-    if !held(place) {
-        return 0;
-    }
-    let rank = place.rank as usize;
-    let cell = place.cell as usize;
-    let address = (rank - 1) * CELLS + cell;
-    if writes {
-        (1 + address * 2 + 1) as u16
-    } else {
-        (1 + address * 2) as u16
+    match access {
+        Some(
+            Access {
+                writes,
+                address,
+                ..
+            },
+        ) if held(address) => {
+            let cell = usize::from(address.rank - 1) * CELLS + usize::from(address.cell);
+            (1 + cell * 2 + usize::from(writes)) as u16
+        }
+        _ => 0,
     }
 }

@@ -3,5 +3,4 @@
 #![tactic(auto)]
 
 pub mod access;
-pub mod kinds;
 pub mod rows;

@@ -3,9 +3,10 @@ use Rattle.std.specs.Prelude.{ℕ}
 use Rattle.model.specs.HappensBefore.{edges_of}
 use Rattle.model.specs.Orders.{Verdict, verdict}
 use Rattle.memory.specs.Tables.{Table}
+use Rattle.graph.specs.declared.Drawn.{Drawn}
+use Rattle.graph.specs.Drawn.{drawn_as}
 use Rattle.graph.specs.Edges.{groups_in, graph_in}
 use Rattle.happens_before.specs.Told.{events_told}
-use Rattle.happens_before.specs.Drawn.{Drawn, drawn_as}
 
 abbrev pub verdict_drawn : (groups : ℕ) → Drawn → Verdict
 verdict_drawn groups drawn = verdict (groups_in groups) (graph_in groups drawn.count drawn.edges)

@@ -5,7 +5,7 @@ ghost use Rattle.std.specs.Prelude.{◌≡◌};
 ghost use Rattle.verdicts.specs.Judged.{judged_as};
 ghost use Rattle.judging.specs.Told.{verdict_told};
 
-use graph::{EDGES, ENDPOINTS};
+use graph::Drawn;
 use happens_before::edges_of;
 use model::Trail;
 use verdicts::{Judged, verdict};
@@ -14,7 +14,7 @@ use verdicts::{Judged, verdict};
 pub fn judge(trail: &Trail, items: usize, groups: u16) -> Judged
     ensures { result ≡ judged_as (verdict_told groups items trail.now) }
 {
-    let mut edges = [[0; ENDPOINTS]; EDGES];
-    let drawn = edges_of(trail, items, &mut edges);
-    verdict(groups, &edges, drawn)
+    let mut drawn = Drawn::none();
+    edges_of(trail, items, &mut drawn);
+    verdict(groups, &drawn)
 }

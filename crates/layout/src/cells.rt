@@ -3,46 +3,46 @@ ghost use Rattle.std.specs.Prelude.{◌≡◌, ◌+◌, ◌≤◌};
 ghost use Rattle.layout.specs.Laid.{laid, LaysOut};
 ghost use Rattle.layout.specs.Lines.{cell_line_on, rank_lines_on, cell_lines_on, rank_long, cells_long, farthest};
 
-use crate::line::{Line, put};
+use crate::Contents;
+use crate::line::{Line, Page};
 use memory::cell_at;
 use model::{Address, Cells};
 
 // A cell's line; none where it is 0.
+#[tactic(auto, unfolding(crate::specs::Lines::cell_line_on))]
 fn cell_line(cells: &Cells, rank: u16, cell: u16) -> Line
     ensures { result ≡ cell_line_on cells.now rank cell }
 {
     let value = cell_at(cells, Address { rank, cell });
     if value == 0 {
-        return Line::Nothing;
+        Line::Nothing
+    } else {
+        Line::Cell { rank, cell, value }
     }
-    Line::Cell { rank, cell, value }
 }
 
 // The lines of one rank.
-fn write_rank(text: &mut [u8], at: usize, cells: &Cells, rank: u16, width: u16) -> usize
-    requires { at + rank_long ≤ farthest }
-    ensures { LaysOut (rank_lines_on cells.now rank width) rank_long (laid text.old at) (laid text.new result) }
+fn write_rank(page: &mut Page<'_>, cells: &Cells, rank: u16, width: u16)
+    requires { page.old.at + rank_long ≤ farthest }
+    ensures same { page.new.text.ghost_name ≡ page.old.text.ghost_name }
+    ensures laid { LaysOut (rank_lines_on cells.now rank width) rank_long (laid page.old.text.now page.old.at) (laid page.new.text.now page.new.at) }
 {
-    let mut next = at;
-    let mut cell = 0;
-    while cell < width {
+    for cell in 0..width {
         let line = cell_line(cells, rank, cell);
-        next = put(text, next, line);
-        cell += 1;
+        page.put(line);
     }
-    next
 }
 
-// The lines of all ranks.
-pub fn write_cells(text: &mut [u8], at: usize, cells: &Cells, ranks: u16, width: u16) -> usize
-    requires { at + cells_long ≤ farthest }
-    ensures { LaysOut (cell_lines_on cells.now ranks width) cells_long (laid text.old at) (laid text.new result) }
-{
-    let mut next = at;
-    let mut done = 0;
-    while done < ranks {
-        next = write_rank(text, next, cells, done + 1, width);
-        done += 1;
+impl Contents<'_> {
+    // The lines of all ranks.
+    pub fn write_cells(&self, page: &mut Page<'_>)
+        requires { page.old.at + cells_long ≤ farthest }
+        ensures same { page.new.text.ghost_name ≡ page.old.text.ghost_name }
+        ensures laid { LaysOut (cell_lines_on self.now.cells.now self.now.header.ranks self.now.header.cells) cells_long
+            (laid page.old.text.now page.old.at) (laid page.new.text.now page.new.at) }
+    {
+        for done in 0..self.header.ranks {
+            write_rank(page, self.cells, done + 1, self.header.cells);
+        }
     }
-    next
 }

@@ -1,75 +1,60 @@
 // "then per group, in the answer's order, `group`, number, kind word, rank (0 for a barrier), first item"
-ghost use Rattle.std.specs.Prelude.{◌≡◌, ◌+◌, ◌≤◌, min};
+ghost use Rattle.std.specs.Prelude.{◌≡◌, ◌+◌, ◌≤◌, min, length, take};
 ghost use Rattle.model.specs.Limits.{max_items};
 ghost use Rattle.layout.specs.Laid.{laid, LaysOut};
-ghost use Rattle.layout.specs.Lines.{rank_shown, group_line_on, group_lines_on, groups_long, farthest};
+ghost use Rattle.layout.specs.Lines.{rank_shown, group_line_on, groups_told, group_lines_on, groups_long, farthest};
 
-use crate::line::{Line, put};
-use first_items::{First, Firsts, first_of};
+use crate::line::{Line, Page};
+use crate::{Contents, groups_told};
+use first_items::first_of;
 use graph::Groups;
-use items::kinds::same_kind;
-use model::{Header, ITEMS, Item, Kind};
+use model::{ITEMS, Item, Kind, Verdict};
 
 // "rank (0 for a barrier)"
+#[tactic(auto, unfolding(crate::specs::Lines::rank_shown))]
 fn rank_shown(item: Item) -> u16
     ensures { result ≡ rank_shown item }
 {
-    let kind = item.kind;
-    if same_kind(kind, Kind::Bar) {
-        return 0;
-    }
-    item.rank
+    if item.kind == Kind::Bar { 0 } else { item.rank }
 }
 
-// A group's line, by its first item.
-fn group_line(recorded: &[u8], header: Header, firsts: &Firsts, group: u16) -> Line
-    ensures { result ≡ group_line_on header recorded.now firsts.now group }
+// The groups that the verdict counts, but no more than the list has entries for.
+fn counted(groups: &Groups, verdict: Verdict) -> &[u16]
+    ensures first { result.now ≡ take (min (groups_told verdict) max_items) groups.now }
+    ensures all { length result.now ≡ min (groups_told verdict) max_items }
 {
-    match first_of(recorded, header, firsts, group) {
-        First::Nothing => Line::Nothing,
-        First::Item { item, number } => {
-            let kind = item.kind;
-            Line::Group {
+    &groups[..groups_told(verdict).min(ITEMS)]
+}
+
+impl Contents<'_> {
+    // A group's line, by its first item.
+    #[tactic(auto, unfolding(crate::specs::Lines::group_line_on))]
+    fn group_line(&self, group: u16) -> Line
+        ensures { result ≡ group_line_on self.now.header self.now.recorded.now self.now.firsts.now group }
+    {
+        match first_of(self.recorded, self.header, self.firsts, group) {
+            None => Line::Nothing,
+            Some(first) => Line::Group {
                 group,
-                kind,
-                rank: rank_shown(item),
-                first: number,
-            }
+                kind: first.item.kind,
+                rank: rank_shown(first.item),
+                first: first.number,
+            },
         }
     }
-}
 
-// So many groups, but no more than a list has.
-fn groups_listed(count: usize) -> usize
-    ensures { result ≡ min count max_items }
-{
-    if count < ITEMS {
-        return count;
+    // The lines of the groups that the verdict counts, in the list's order.
+    pub fn write_groups(&self, page: &mut Page<'_>)
+        requires { page.old.at + groups_long ≤ farthest }
+        ensures same { page.new.text.ghost_name ≡ page.old.text.ghost_name }
+        ensures laid { LaysOut
+            (group_lines_on self.now.groups.now (groups_told self.now.verdict) self.now.header self.now.recorded.now self.now.firsts.now)
+            groups_long (laid page.old.text.now page.old.at) (laid page.new.text.now page.new.at) }
+    {
+        let groups = counted(self.groups, self.verdict);
+        for &group in groups {
+            let line = self.group_line(group);
+            page.put(line);
+        }
     }
-    ITEMS
-}
-
-// The lines of the first `count` groups of a list.
-pub fn write_groups(
-    text: &mut [u8],
-    at: usize,
-    groups: &Groups,
-    count: usize,
-    recorded: &[u8],
-    header: Header,
-    firsts: &Firsts,
-) -> usize
-    requires { at + groups_long ≤ farthest }
-    ensures { LaysOut (group_lines_on groups.now count header recorded.now firsts.now) groups_long
-        (laid text.old at) (laid text.new result) }
-{
-    let last = groups_listed(count);
-    let mut next = at;
-    let mut done = 0;
-    while done < last {
-        let line = group_line(recorded, header, firsts, groups[done]);
-        next = put(text, next, line);
-        done += 1;
-    }
-    next
 }

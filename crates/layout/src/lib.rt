@@ -8,32 +8,45 @@ mod line;
 
 ghost use Rattle.std.specs.Prelude.{◌≡◌};
 ghost use Rattle.layout.specs.Laid.{laid, lay_out};
-ghost use Rattle.layout.specs.Lines.{text_lines};
+ghost use Rattle.layout.specs.Lines.{groups_told, text_lines};
 
-use crate::cells::write_cells;
-use crate::groups::write_groups;
-use crate::line::{Line, put};
+use crate::line::{Line, Page};
 use first_items::Firsts;
 use graph::Groups;
-use model::{Cells, Header};
+use model::{Cells, Header, Verdict};
 
-// The line of an order or a ring of `count` groups, a line for each of them, and a line for each cell that is not 0. Answers how many bytes they
-// have; they are all written if the text has as many.
-pub fn write_text(
-    text: &mut [u8],
-    cyclic: bool,
-    groups: &Groups,
-    count: usize,
-    recorded: &[u8],
-    header: Header,
-    firsts: &Firsts,
-    cells: &Cells,
-) -> usize
-    ensures { laid text.new result ≡
-        lay_out (text_lines cyclic groups.now count recorded.now header firsts.now cells.now)
-        (laid text.old 0) }
+// How many groups an order or a ring has.
+fn groups_told(verdict: Verdict) -> usize
+    ensures { result ≡ groups_told verdict }
 {
-    let first = put(text, 0, Line::Verdict { cyclic, count });
-    let second = write_groups(text, first, groups, count, recorded, header, firsts);
-    write_cells(text, second, cells, header.ranks, header.cells)
+    match verdict {
+        Verdict::Order(count) | Verdict::Ring(count) => count,
+    }
+}
+
+// What the lines of a listing tell: the verdict and its groups, the record by which a group's first item is read, and the last cells.
+#[derive(Clone, Copy)]
+pub struct Contents<'a> {
+    pub verdict: Verdict,
+    pub groups: &'a Groups,
+    pub recorded: &'a [u8],
+    pub header: Header,
+    pub firsts: &'a Firsts,
+    pub cells: &'a Cells,
+}
+
+impl Contents<'_> {
+    // The line of an order or a ring, a line for each of its groups, and a line for each cell that is not 0. Answers how many bytes they
+    // have; they are all written if the text has as many.
+    pub fn write_text(&self, text: &mut [u8]) -> usize
+        ensures { laid text.new result ≡
+            lay_out (text_lines self.now.verdict self.now.groups.now self.now.recorded.now self.now.header self.now.firsts.now self.now.cells.now)
+            (laid text.old 0) }
+    {
+        let mut page = Page { text, at: 0 };
+        page.put(Line::Verdict(self.verdict));
+        self.write_groups(&mut page);
+        self.write_cells(&mut page);
+        page.at
+    }
 }

@@ -1,20 +1,16 @@
 // One line of a listing, put into the rest of a text.
-ghost use Rattle.std.specs.Prelude.{[], ◌∷◌, ◌≤◌};
+ghost use Rattle.std.specs.Prelude.{◌≡◌, [], ◌∷◌, ◌≤◌};
 ghost use Rattle.texts.specs.Texts.{Wrote};
 ghost use Rattle.layout.specs.Laid.{laid, LaysOut};
 ghost use Rattle.layout.specs.Lines.{bytes_of, longest, farthest, Measures};
 
 use lines::{answer_length, cell_length, group_length, write_answer, write_cell, write_group};
-use model::Kind;
-use verdicts::answer_of;
+use model::{Kind, Verdict};
 
 // A line by its fields, or no line.
 #[derive(Clone, Copy)]
 pub enum Line {
-    Verdict {
-        cyclic: bool,
-        count: usize,
-    },
+    Verdict(Verdict),
     Group {
         group: u16,
         kind: Kind,
@@ -34,7 +30,7 @@ fn length_of(line: Line) -> usize
     ensures { Measures line result }
 {
     match line {
-        Line::Verdict { cyclic, count } => answer_length(answer_of(cyclic, count)),
+        Line::Verdict(verdict) => answer_length(Ok(verdict)),
         Line::Group {
             group,
             kind,
@@ -47,11 +43,12 @@ fn length_of(line: Line) -> usize
 }
 
 // A line at the front of a text, where it fits.
+#[tactic(auto, unfolding(crate::specs::Lines::bytes_of, texts::specs::Texts::written, texts::specs::Texts::written_length, model::specs::Checks::fill))]
 fn write_line(text: &mut [u8], line: Line) -> usize
     ensures { Wrote (bytes_of line) text.old text.new result }
 {
     match line {
-        Line::Verdict { cyclic, count } => write_answer(text, answer_of(cyclic, count)),
+        Line::Verdict(verdict) => write_answer(text, Ok(verdict)),
         Line::Group {
             group,
             kind,
@@ -63,15 +60,24 @@ fn write_line(text: &mut [u8], line: Line) -> usize
     }
 }
 
-// "each line is written into the rest of the lent bytes": answers where the next line goes.
-pub fn put(text: &mut [u8], at: usize, line: Line) -> usize
-    requires { at ≤ farthest }
-    ensures { LaysOut (bytes_of line ∷ []) longest (laid text.old at) (laid text.new result) }
-{
-    let next = at + length_of(line);
-    if at <= text.len() {
-        write_line(&mut text[at..], line);
-        return next;
+// A text, and where its next line goes. Whoever writes to a page leaves the same text in it, which is what its ghost name says.
+#[derive(Drop)]
+pub struct Page<'a> {
+    pub text: &'a mut [u8],
+    pub at: usize,
+}
+
+impl Page<'_> {
+    // "each line is written into the rest of the lent bytes"
+    pub fn put(&mut self, line: Line)
+        requires { self.old.at ≤ farthest }
+        ensures same { self.new.text.ghost_name ≡ self.old.text.ghost_name }
+        ensures laid { LaysOut (bytes_of line ∷ []) longest (laid self.old.text.now self.old.at) (laid self.new.text.now self.new.at) }
+    {
+        let at = self.at;
+        self.at = at + length_of(line);
+        if at <= self.text.len() {
+            write_line(&mut self.text[at..], line);
+        }
     }
-    next
 }

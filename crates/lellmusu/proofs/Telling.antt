@@ -1,8 +1,8 @@
 -- What slip, start and listing answer, in two numbers.
+use Rattle.model.specs.Refusals.{Result}
 use Prim.Native.Nat.{ℕ}
 use mathlib.Core.Path.{◌≡◌, ap, ◌∙◌}
 use mathlib.Core.List.{List}
-use Rattle.model.specs.declared.Filled.{Filled}
 use Rattle.model.specs.declared.Listed.{Listed}
 use Rattle.model.specs.Lending.{Lent, answering}
 use Rattle.model.specs.Listings.{Listing}
@@ -10,7 +10,7 @@ use Rattle.listing.specs.Told.{printing}
 use Rattle.lellmusu.specs.Reported.{number_of}
 use Rattle.lellmusu.specs.Told.{filled_number, filled_value, text_length, Tells, Prints}
 
-pub tells : {definition : Lent} {filled : Filled} {memory' : List ℕ} {value number : ℕ} → answering filled memory' ≡ definition →
+pub tells : {definition : Lent} {filled : Result ℕ} {memory' : List ℕ} {value number : ℕ} → answering filled memory' ≡ definition →
     value ≡ filled_value filled → number ≡ filled_number filled → Tells definition memory' value number
 tells same value_is number_is =
     record {

@@ -12,7 +12,7 @@ ghost use Rattle.lellmusu.specs.Versions.{version};
 use checker::check_bytes;
 use listing::listing;
 use model::refusals::MEMORY_TOO_SHORT;
-use model::{Answer, Filled};
+use model::{Answer, Filled, Verdict};
 use slips::{read_slip, write_slip};
 use starts::{read_start_bytes, write_start_bytes};
 
@@ -32,9 +32,9 @@ fn number_of(answer: Answer) -> u8
     ensures { result ≡ number_of answer }
 {
     match answer {
-        Answer::Order(_) => ORDER,
-        Answer::Ring(_) => RING,
-        Answer::Refused(refusal) => refusal.number,
+        Ok(Verdict::Order(_)) => ORDER,
+        Ok(Verdict::Ring(_)) => RING,
+        Err(refusal) => refusal.number,
     }
 }
 
@@ -42,9 +42,8 @@ fn value_of(answer: Answer) -> usize
     ensures { result ≡ value_of answer }
 {
     match answer {
-        Answer::Order(count) => count,
-        Answer::Ring(count) => count,
-        Answer::Refused(refusal) => refusal.place,
+        Ok(Verdict::Order(count) | Verdict::Ring(count)) => count,
+        Err(refusal) => refusal.place,
     }
 }
 
@@ -67,22 +66,20 @@ pub extern "C" fn lellmusu_check(
     number_of(answer)
 }
 
-// What was filled, as numbers: 0 and how many entries, or the refusal's number and its place.
-fn filled_number(filled: Filled) -> u8
-    ensures { result ≡ filled_number filled }
+// Tells what was filled in numbers: it returns 0 and writes how many entries, or the refusal's number and its place.
+fn tell(filled: Filled, value: &mut usize) -> u8
+    ensures returns { result ≡ filled_number filled }
+    ensures counts { value.new ≡ filled_value filled }
 {
     match filled {
-        Filled::Entries(_) => FILLED,
-        Filled::Refused(refusal) => refusal.number,
-    }
-}
-
-fn filled_value(filled: Filled) -> usize
-    ensures { result ≡ filled_value filled }
-{
-    match filled {
-        Filled::Entries(count) => count,
-        Filled::Refused(refusal) => refusal.place,
+        Ok(count) => {
+            *value = count;
+            FILLED
+        }
+        Err(refusal) => {
+            *value = refusal.place;
+            refusal.number
+        }
     }
 }
 
@@ -98,9 +95,7 @@ pub extern "C" fn lellmusu_write_slip(
     ensures { Tells (slips.write_slip program.now start.now recorded.now slip.old)
         slip.new value.new result }
 {
-    let filled = write_slip(program, start, recorded, slip);
-    *value = filled_value(filled);
-    filled_number(filled)
+    tell(write_slip(program, start, recorded, slip), value)
 }
 
 // Reads a slip of a program with so many ranks as `read_slip` does: it returns 0 and writes how many counts it filled, or the refusal's number and its
@@ -114,9 +109,7 @@ pub extern "C" fn lellmusu_read_slip(
 ) -> u8
     ensures { Tells (slips.read_slip ranks slip.now counts.old) counts.new value.new result }
 {
-    let filled = read_slip(ranks as u16, slip, counts);
-    *value = filled_value(filled);
-    filled_number(filled)
+    tell(read_slip(ranks as u16, slip, counts), value)
 }
 
 // Writes a start from a list of cells in bytes, as `write_start_bytes` does: it returns 0 and writes how many bytes the start has, or the refusal's
@@ -131,9 +124,7 @@ pub extern "C" fn lellmusu_write_start(
     ensures { Tells (starts.write_start_bytes program.now cells.now start.old)
         start.new value.new result }
 {
-    let filled = write_start_bytes(program, cells, start);
-    *value = filled_value(filled);
-    filled_number(filled)
+    tell(write_start_bytes(program, cells, start), value)
 }
 
 // Reads a start into a list of cells in bytes, as `read_start_bytes` does: it returns 0 and writes how many entries it filled, or the refusal's number
@@ -148,9 +139,7 @@ pub extern "C" fn lellmusu_read_start(
     ensures { Tells (starts.read_start_into_bytes program.now start.now cells.old)
         cells.new value.new result }
 {
-    let filled = read_start_bytes(program, start, cells);
-    *value = filled_value(filled);
-    filled_number(filled)
+    tell(read_start_bytes(program, start, cells), value)
 }
 
 // How many bytes a listing has: those that were written or, where the text was too short, those that are needed.
@@ -158,14 +147,8 @@ fn text_length(answer: Answer, written: usize) -> usize
     ensures { result ≡ text_length answer written }
 {
     match answer {
-        Answer::Order(_) => written,
-        Answer::Ring(_) => written,
-        Answer::Refused(refusal) => {
-            if refusal.number == MEMORY_TOO_SHORT {
-                return refusal.place;
-            }
-            written
-        }
+        Err(refusal) if refusal.number == MEMORY_TOO_SHORT => refusal.place,
+        _ => written,
     }
 }
 

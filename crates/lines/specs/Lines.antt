@@ -1,7 +1,7 @@
 -- What is told of a line's length, and the lines of a listing, by what each is written from.
-use Rattle.std.specs.Prelude.{ℕ, ◌+◌, ◌*◌, ◌≤◌, min, ◌≡◌, List, [], ◌∷◌, map, length}
-use Rattle.model.specs.declared.Answer.{Answer}
-use Rattle.model.specs.declared.Answer.TheVariants.{Order, Ring, Refused}
+use Rattle.model.specs.Checks.{Answer}
+use Rattle.model.specs.declared.Verdict.TheVariants.{Order, Ring}
+use Rattle.std.specs.Prelude.{ℕ, ◌+◌, ◌*◌, ◌≤◌, min, ◌≡◌, List, [], ◌∷◌, map, length, Ok, Err}
 use Rattle.model.specs.declared.Kind.{Kind}
 use Rattle.model.specs.Listings.{line, decimal, order_word, ring_word, group_word, cell_word, kind_word, refused_line}
 
@@ -18,9 +18,9 @@ pub record LengthTold (word numbers : List ℕ) (r : ℕ) : Type 0 where
 -- "`order` and `ring` carry the count"; "`refused` carries number and place"
 unfoldable pub answer_line : Answer → List ℕ
 unfolding line decimal refused_line
-answer_line (Order count) = line order_word (decimal count ∷ [])
-answer_line (Ring count) = line ring_word (decimal count ∷ [])
-answer_line (Refused refusal) = refused_line refusal
+answer_line (Ok (Order count)) = line order_word (decimal count ∷ [])
+answer_line (Ok (Ring count)) = line ring_word (decimal count ∷ [])
+answer_line (Err refusal) = refused_line refusal
 
 -- "`group`, number, kind word, rank (0 for a barrier), first item"
 unfoldable pub group_entry : (group : ℕ) → Kind → (rank first : ℕ) → List ℕ

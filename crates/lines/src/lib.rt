@@ -9,38 +9,36 @@ ghost use Rattle.std.specs.Prelude.{◌≡◌, length};
 ghost use Rattle.texts.specs.Texts.{Wrote};
 ghost use Rattle.lines.specs.Lines.{answer_line, cell_entry, group_entry};
 
-use crate::kinds::{kind_length, write_kind_line};
+use crate::kinds::kind_word;
 use crate::numbered::{line_length, write_line, write_number};
-use model::{Answer, Kind};
+use model::{Answer, Kind, Verdict};
 use texts::decimals::decimal_length;
 use texts::words::write_word;
 
 // A listing's first line, by the check's answer: `order` or `ring` with the count, or `refused` with number and place.
+#[tactic(auto, unfolding(crate::specs::Lines::answer_line, model::specs::Listings::refused_line))]
 pub fn answer_length(answer: Answer) -> usize
     ensures { result ≡ length (answer_line answer) }
 {
     match answer {
-        Answer::Order(count) => line_length(b"order", &[count]),
-        Answer::Ring(count) => line_length(b"ring", &[count]),
-        Answer::Refused(refusal) => {
-            let number = refusal.number as usize;
-            let place = refusal.place;
-            line_length(b"refused", &[number, place])
-        }
+        Ok(verdict) => match verdict {
+            Verdict::Order(count) => line_length(b"order", &[count]),
+            Verdict::Ring(count) => line_length(b"ring", &[count]),
+        },
+        Err(refusal) => line_length(b"refused", &[refusal.number as usize, refusal.place]),
     }
 }
 
+#[tactic(auto, unfolding(crate::specs::Lines::answer_line, model::specs::Listings::refused_line))]
 pub fn write_answer(text: &mut [u8], answer: Answer) -> usize
     ensures { Wrote (answer_line answer) text.old text.new result }
 {
     match answer {
-        Answer::Order(count) => write_line(text, b"order", &[count]),
-        Answer::Ring(count) => write_line(text, b"ring", &[count]),
-        Answer::Refused(refusal) => {
-            let number = refusal.number as usize;
-            let place = refusal.place;
-            write_line(text, b"refused", &[number, place])
-        }
+        Ok(verdict) => match verdict {
+            Verdict::Order(count) => write_line(text, b"order", &[count]),
+            Verdict::Ring(count) => write_line(text, b"ring", &[count]),
+        },
+        Err(refusal) => write_line(text, b"refused", &[refusal.number as usize, refusal.place]),
     }
 }
 
@@ -64,7 +62,7 @@ pub fn group_length(group: u16, kind: Kind, rank: u16, first: u16) -> usize
     let number = decimal_length(group as usize);
     let who = decimal_length(rank as usize);
     let place = decimal_length(first as usize);
-    10 + number + kind_length(kind) + who + place
+    10 + number + kind_word(kind).len() + who + place
 }
 
 pub fn write_group(text: &mut [u8], group: u16, kind: Kind, rank: u16, first: u16) -> usize
@@ -76,5 +74,9 @@ pub fn write_group(text: &mut [u8], group: u16, kind: Kind, rank: u16, first: u1
     let mut at = write_word(text, b"group");
     at += write_number(&mut text[at..], group as usize);
     at += write_word(&mut text[at..], b" ");
-    at + write_kind_line(&mut text[at..], kind, &[rank as usize, first as usize])
+    at + write_line(
+        &mut text[at..],
+        kind_word(kind),
+        &[rank as usize, first as usize],
+    )
 }

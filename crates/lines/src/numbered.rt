@@ -1,24 +1,11 @@
 // Lines that are a word and any numbers, with a space before each.
-ghost use Rattle.std.specs.Prelude.{◌≡◌, ◌∷◌, map, ◌+◌, min};
+ghost use Rattle.std.specs.Prelude.{◌∷◌, map};
 ghost use Rattle.model.specs.Listings.{decimal, line, space};
 ghost use Rattle.texts.specs.Texts.{Wrote};
-ghost use Rattle.lines.specs.Lines.{largest, LengthTold};
+ghost use Rattle.lines.specs.Lines.{LengthTold};
 
 use texts::decimals::{decimal_length, write_decimal};
 use texts::words::write_word;
-
-// The largest number: no memory has so many bytes.
-const LARGEST: usize = 18446744073709551615;
-
-// So many bytes and so many more, or the largest number where that is less.
-fn longer(count: usize, more: usize) -> usize
-    ensures { result ≡ min (count + more) largest }
-{
-    if LARGEST - count < more {
-        return LARGEST;
-    }
-    count + more
-}
 
 // A space and a number, where they fit.
 pub fn write_number(text: &mut [u8], number: usize) -> usize
@@ -36,10 +23,8 @@ pub fn line_length(word: &[u8], numbers: &[usize]) -> usize
     ensures { LengthTold word.now numbers.now result }
 {
     let mut count = word.len() + 1;
-    let mut next = 0;
-    while next < numbers.len() {
-        count = longer(count, 1 + decimal_length(numbers[next]));
-        next += 1;
+    for &number in numbers {
+        count = count.saturating_add(1 + decimal_length(number));
     }
     count
 }
@@ -52,10 +37,8 @@ pub fn write_line(text: &mut [u8], word: &[u8], numbers: &[usize]) -> usize
         return 0;
     }
     let mut at = write_word(text, word);
-    let mut next = 0;
-    while next < numbers.len() {
-        at += write_number(&mut text[at..], numbers[next]);
-        next += 1;
+    for &number in numbers {
+        at += write_number(&mut text[at..], number);
     }
     at + write_word(&mut text[at..], b"\n")
 }

@@ -12,7 +12,8 @@ use Rattle.model.proofs.Laws.{decided, put_same, put_other, put₂_same, put₂_
 use Rattle.memory.specs.Tables.{Table, Row, Rank, Shaped}
 use Rattle.memory.proofs.Stores.{same_place, other_place}
 use Rattle.entries.specs.Entries.{pool_size}
-use Rattle.links.specs.Lists.{Queues, tables, lists_of_rank, tail_end, follower, end_of, linked, unlinked}
+use Rattle.links.specs.declared.Queues.{Queues}
+use Rattle.links.specs.Lists.{tables, lists_of_rank, tail_end, follower, end_of, linked, unlinked}
 use Rattle.links.specs.Chains.{last_or, All, Once, Chain, Standing, Chained}
 use Rattle.links.proofs.EntryLists.{all_append, all_left, all_but, all_middle, all_last, all_map}
 use Rattle.links.proofs.EntryLists.{all_both, once_apart, once_but, once_more, run_kept}

@@ -12,7 +12,8 @@ use Rattle.memory.specs.Tables.{Row, Rank, Shaped}
 use Rattle.memory.proofs.Stores.{shaped, number_same, number_other}
 use Rattle.entries.specs.Entries.{pool_size, link_field}
 use Rattle.links.specs.declared.Part.{Part}
-use Rattle.links.specs.Lists.{Queues, ends_size, lists_of_rank, list_of, head_end, tail_end, next_of}
+use Rattle.links.specs.declared.Queues.{Queues}
+use Rattle.links.specs.Lists.{ends_size, lists_of_rank, list_of, head_end, tail_end, next_of}
 use Rattle.links.specs.Lists.{follower, end_of, with_field, with_end, next_set, linked, unlinked}
 use Rattle.links.specs.Chains.{first, last_or, All, Once, Run, Chain}
 use Rattle.links.proofs.EntryLists.{all_left, all_right, all_last, all_map, all_of}

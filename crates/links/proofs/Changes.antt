@@ -10,7 +10,8 @@ use Rattle.model.proofs.Laws.{decided}
 use Rattle.memory.specs.Tables.{Row, Rank, Shaped}
 use Rattle.memory.proofs.Stores.{shaped, number_same, number_other}
 use Rattle.entries.specs.Entries.{pool_size, link_field}
-use Rattle.links.specs.Lists.{Queues, ends_size, lists_of_rank, head_end, tail_end, field_of}
+use Rattle.links.specs.declared.Queues.{Queues}
+use Rattle.links.specs.Lists.{ends_size, lists_of_rank, head_end, tail_end, field_of}
 use Rattle.links.specs.Lists.{follower, end_of, with_field, with_end, next_set, linked, unlinked}
 
 -- The ends of a list are among those of its rank, and no two lists have one in common.

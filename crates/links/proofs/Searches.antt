@@ -1,11 +1,11 @@
 -- A search by remote rank, step by step as the code makes it; and on tables that hold the model's lists it finds what the model calls the oldest: the
 -- links run through the entries, so the search passes them in the model's order, and no list has more entries than the search has steps.
+use Rattle.std.specs.Prelude.{Option, Some, None}
 use Prim.Native.Nat.{ℕ, zero, suc, ◌-◌, ◌≤◌, ◌<◌}
 use mathlib.Core.Path.{◌≡◌, refl, sym, ap, ◌∙◌}
 use mathlib.Core.Bool.{Bool, true, false}
 use mathlib.Core.Logic.{◌≢◌}
 use mathlib.Core.List.{List, [], ◌∷◌, ◌++◌, map, cons-ne-nil}
-use mathlib.Core.Option.{some, none}
 use native.Mathlib.Nat.{not-suc-le-zero}
 use native.Mathlib.Omega.{arith}
 use lib.ListN.{length}
@@ -15,26 +15,24 @@ use Rattle.model.specs.Replay.{is_for, oldest}
 use Rattle.model.proofs.Laws.{decided}
 use Rattle.memory.specs.Tables.{Table, Row, number_at}
 use Rattle.links.specs.declared.Position.{Position}
-use Rattle.links.specs.declared.Oldest.{Oldest}
-use Rattle.links.specs.declared.Oldest.TheVariants.{Entry, Empty}
 use Rattle.entries.specs.Entries.{pool_size, remote_field, link_field}
 use Rattle.links.specs.Lists.{searched}
 use Rattle.links.specs.Chains.{first, last_or, All, Run}
 
 -- One step of a search: it ends, finds its entry, or goes on with the entry that follows.
 module _ (pool : Table) (named : ℕ) where
-  pub search_spent : (left previous entry : ℕ) → left ≤ 0 → searched pool named left previous entry ≡ Empty
+  pub search_spent : (left previous entry : ℕ) → left ≤ 0 → searched pool named left previous entry ≡ None
   unfolding searched
   search_spent zero previous entry h = refl
   search_spent (suc left) previous entry h = absurd (not-suc-le-zero h)
 
-  pub search_ends : (left previous entry : ℕ) → entry ≡ 0 → searched pool named left previous entry ≡ Empty
+  pub search_ends : (left previous entry : ℕ) → entry ≡ 0 → searched pool named left previous entry ≡ None
   unfolding searched
   search_ends zero previous entry z = refl
   search_ends (suc left) previous entry z = rw (eq-eqb entry 0 z)
 
   pub search_finds : (left previous entry : ℕ) → 0 < left → entry ≢ 0 → is_for named (number_at pool_size pool entry remote_field) ≡ true →
-      searched pool named left previous entry ≡ Entry (record { previous = previous; entry = entry })
+      searched pool named left previous entry ≡ Some (record { previous = previous; entry = entry })
   unfolding searched
   search_finds zero previous entry more there passes = absurd (not-suc-le-zero more)
   search_finds (suc left) previous entry more there passes = rw (ne_eqb entry 0 there, passes)
@@ -53,7 +51,7 @@ pub record Waiting {A B : Type 0} (bare : A → B) (read : ℕ → B) (among : A
   pub split : es ≡ older ++ entry ∷ newer
   pub taken : A
   pub rest : List A
-  pub chosen : oldest among l ≡ some (taken, rest)
+  pub chosen : oldest among l ≡ Some (taken, rest)
   pub reads : read entry ≡ bare taken
   pub leaves : map bare rest ≡ map read (older ++ newer)
 
@@ -63,14 +61,14 @@ abbrev pub position_of : {A B : Type 0} {bare : A → B} {read : ℕ → B} {amo
 position_of before w = record { previous = last_or before w.older; entry = w.entry }
 
 -- An answer tells where the entry of the oldest stands, or that there is none.
-pub data Tells {A B : Type 0} (bare : A → B) (read : ℕ → B) (among : A → Bool) (l : List A) (before : ℕ) (es : List ℕ) : Oldest → Type 0 where
-  none_waits : oldest among l ≡ none → Tells bare read among l before es Empty
-  one_waits : (w : Waiting bare read among l es) → Tells bare read among l before es (Entry (position_of before w))
+pub data Tells {A B : Type 0} (bare : A → B) (read : ℕ → B) (among : A → Bool) (l : List A) (before : ℕ) (es : List ℕ) : Option Position → Type 0 where
+  none_waits : oldest among l ≡ None → Tells bare read among l before es None
+  one_waits : (w : Waiting bare read among l es) → Tells bare read among l before es (Some (position_of before w))
 
 module _ {A B : Type 0} (bare : A → B) (read : ℕ → B) (among : A → Bool) where
   -- The first entry may be the one.
   found : {a : A} {l : List A} {before e : ℕ} {es : List ℕ} → read e ≡ bare a → map bare l ≡ map read es → among a ≡ true →
-      Tells bare read among (a ∷ l) before (e ∷ es) (Entry (record { previous = before; entry = e }))
+      Tells bare read among (a ∷ l) before (e ∷ es) (Some (record { previous = before; entry = e }))
   unfolding oldest
   found {a} {l} {e = e} {es} here says passes =
       one_waits
@@ -87,7 +85,7 @@ module _ {A B : Type 0} (bare : A → B) (read : ℕ → B) (among : A → Bool)
       })
 
   -- Else what is told of the entries behind it is told of them all.
-  passed : {a : A} {l : List A} {before e : ℕ} {es : List ℕ} {o : Oldest} → read e ≡ bare a → among a ≡ false →
+  passed : {a : A} {l : List A} {before e : ℕ} {es : List ℕ} {o : Option Position} → read e ≡ bare a → among a ≡ false →
       Tells bare read among l e es o → Tells bare read among (a ∷ l) before (e ∷ es) o
   unfolding oldest
   passed here fails (none_waits chosen) = none_waits (rw (fails, chosen))

@@ -3,7 +3,8 @@ use Rattle.std.specs.Prelude.{ℕ, ◌<◌, ◌≡◌, ◌≢◌, List, [], ◌�
 use Rattle.model.specs.Limits.{max_items}
 use Rattle.memory.specs.Tables.{Row, Rank, Shaped}
 use Rattle.entries.specs.Entries.{pool_size}
-use Rattle.links.specs.Lists.{Queues, ends_size, lists_of_rank, head_end, tail_end, follower, end_of}
+use Rattle.links.specs.declared.Queues.{Queues}
+use Rattle.links.specs.Lists.{ends_size, lists_of_rank, head_end, tail_end, follower, end_of}
 
 -- The first of some entries, or 0; the last of them, or another number where there are none.
 abbrev pub first : List ℕ → ℕ

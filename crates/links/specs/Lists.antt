@@ -1,13 +1,13 @@
 -- Lists through the pool: where their ends stand, and what link and unlink make of the tables.
-use Rattle.std.specs.Prelude.{ℕ, zero, suc, ◌+◌, ◌*◌, eqb}
+use Rattle.std.specs.Prelude.{ℕ, zero, suc, ◌+◌, ◌*◌, eqb, Option, Some, None}
 use Rattle.model.specs.Limits.{max_ranks, max_items, max_queues}
 use Rattle.model.specs.Choice.{when}
 use Rattle.model.specs.Replay.{is_for}
-use Rattle.memory.specs.Tables.{Table, Size, number_at, stored}
+use Rattle.memory.specs.Tables.{Table, Size, sized, number_at, stored}
 use Rattle.links.specs.declared.Part.{Part}
 use Rattle.links.specs.declared.Part.TheVariants.{Requests, Deliveries}
-use Rattle.links.specs.declared.Oldest.{Oldest}
-use Rattle.links.specs.declared.Oldest.TheVariants.{Entry, Empty}
+use Rattle.links.specs.declared.Position.{Position}
+use Rattle.links.specs.declared.Queues.{Queues}
 use Rattle.entries.specs.Entries.{pool_size, remote_field, link_field}
 
 -- The lists of a rank are numbered: each queue has two.
@@ -26,13 +26,9 @@ abbrev pub tail_end : (list : ℕ) → ℕ
 tail_end list = list * 2 + 1
 
 abbrev pub ends_size : Size
-ends_size = record { rows = max_ranks; width = lists_of_rank * 2 }
+ends_size = sized max_ranks (lists_of_rank * 2)
 
 -- The contents of the two arrays.
-pub record Queues : Type 0 where
-  pub pool : Table
-  pub ends : Table
-
 abbrev pub tables : (pool ends : Table) → Queues
 tables pool ends = record { pool = pool; ends = ends }
 
@@ -59,17 +55,17 @@ next_of ends rank queue part = number_at ends_size ends rank (head_end (list_of 
 
 -- The first entry for the named rank, from an entry on, where `previous` is the one before it: "takes the oldest entry for that rank". After so many
 -- entries the walk ends, since on tables that hold no lists the links may run in a circle.
-unfoldable pub searched : Table → (named left previous entry : ℕ) → Oldest
+unfoldable pub searched : Table → (named left previous entry : ℕ) → Option Position
 unfolding is_for
-searched pool named zero previous entry = Empty
+searched pool named zero previous entry = None
 searched pool named (suc left) previous entry =
-    when (eqb entry 0) (λ _. Empty) (λ _.
+    when (eqb entry 0) (λ _. None) (λ _.
     when (is_for named (number_at pool_size pool entry remote_field))
-    (λ _. Entry (record { previous = previous; entry = entry }))
+    (λ _. Some (record { previous = previous; entry = entry }))
     (λ _. searched pool named left entry (number_at pool_size pool entry link_field)))
 
 -- The entry that a pop takes, by the remote rank that it names, or 0 for none.
-abbrev pub oldest_in : Queues → (rank queue : ℕ) → Part → (named : ℕ) → Oldest
+abbrev pub oldest_in : Queues → (rank queue : ℕ) → Part → (named : ℕ) → Option Position
 oldest_in t rank queue part named = searched t.pool named max_items 0 (next_of t.ends rank queue part)
 
 -- From now on `next` follows `previous`, or is the head where that is none.

@@ -1,4 +1,5 @@
 -- What the listing's promise tells the program: the bytes listed are among those lent, and every status is one of the four.
+use Rattle.model.specs.declared.Verdict.TheVariants.{Order, Ring}
 use Prim.Native.Nat.{ℕ, ◌≤◌}
 use mathlib.Core.Path.{◌≡◌, sym, subst, ap, ◌∙◌}
 use mathlib.Core.Bool.{Bool, true, false}
@@ -6,11 +7,9 @@ use mathlib.Core.List.{List}
 use native.Mathlib.Omega.{arith}
 use lib.Dec.{leb}
 use lib.ListN.{length, drop, length-append}
-use Rattle.model.specs.declared.Answer.{Answer}
-use Rattle.model.specs.declared.Answer.TheVariants.{Order, Ring, Refused}
 use Rattle.model.specs.declared.Listed.{Listed}
-use Rattle.model.specs.Refusals.{Result, ok, refused}
-use Rattle.model.specs.Checks.{Accepted, accept, verdict_on, answered, fill}
+use Rattle.model.specs.Refusals.{Result, Ok, Err}
+use Rattle.model.specs.Checks.{Accepted, accept, verdict_on, answered, fill, Answer}
 use Rattle.model.specs.Listings.{Listing, listing_in, listing, listing_of, refused_line, printed, printed_of}
 use Rattle.model.proofs.Laws.{decided}
 use Rattle.list_run.specs.declared.Ran.{Ran}
@@ -30,8 +29,8 @@ module _ (memory : List ℕ) where
 
   printed_of_fits : (m : Result Accepted) → Fits (printed_of memory m)
   unfolding printed_of
-  printed_of_fits (ok a) = printed_fits (answered (verdict_on a.run)) (listing_of a (verdict_on a.run))
-  printed_of_fits (refused r) = printed_fits (Refused r) (refused_line r)
+  printed_of_fits (Ok a) = printed_fits (answered (verdict_on a.run)) (listing_of a (verdict_on a.run))
+  printed_of_fits (Err r) = printed_fits (Err r) (refused_line r)
 
 fits : (program start recorded memory : List ℕ) → Fits (listing program start recorded memory)
 unfolding listing_in
@@ -56,9 +55,9 @@ runs program start recorded memory ran listed is_status ends =
 
 -- Every status is one of the four.
 answer_known : (answer : Answer) → status_of answer ≤ not_written
-answer_known (Order count) = omega arith
-answer_known (Ring count) = omega arith
-answer_known (Refused r) = omega arith
+answer_known (Ok (Order count)) = omega arith
+answer_known (Ok (Ring count)) = omega arith
+answer_known (Err r) = omega arith
 
 pub status_known : (written : Bool) {r : ℕ} (status : ℕ) → r ≡ exit_status written status → status ≤ not_written → r ≤ not_written
 status_known true status is known = omega arith

@@ -1,6 +1,6 @@
 -- What the program does with what it has read of its three files.
+use Rattle.model.specs.Checks.{Answer}
 use Rattle.std.specs.Prelude.{ℕ, ◌≤◌, ◌≡◌, List, length, take}
-use Rattle.model.specs.declared.Answer.{Answer}
 use Rattle.model.specs.Listings.{Listing, listing}
 use Rattle.list_run.specs.declared.Ran.{Ran}
 use Rattle.list_run.specs.Statuses.{status_of, exit_status}

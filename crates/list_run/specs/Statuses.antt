@@ -1,13 +1,13 @@
 -- Exit statuses of the listing program.
-use Rattle.std.specs.Prelude.{ℕ, Bool, true, false}
-use Rattle.model.specs.declared.Answer.{Answer}
-use Rattle.model.specs.declared.Answer.TheVariants.{Order, Ring, Refused}
+use Rattle.model.specs.Checks.{Answer}
+use Rattle.model.specs.declared.Verdict.TheVariants.{Order, Ring}
+use Rattle.std.specs.Prelude.{ℕ, Bool, true, false, Ok, Err}
 
 -- An order, a ring, a refusal.
 abbrev pub status_of : Answer → ℕ
-status_of (Order count) = 0
-status_of (Ring count) = 1
-status_of (Refused r) = 2
+status_of (Ok (Order count)) = 0
+status_of (Ok (Ring count)) = 1
+status_of (Err r) = 2
 
 abbrev pub not_written : ℕ
 not_written = 3

@@ -3,7 +3,7 @@ ghost use Rattle.std.specs.Prelude.{◌≤◌, ◌≡◌};
 ghost use Rattle.list_run.specs.Statuses.{status_of, exit_status, not_written};
 
 use arrayvec::ArrayString;
-use model::Answer;
+use model::{Answer, Verdict};
 use std::fmt::Write;
 use std::io;
 
@@ -39,9 +39,9 @@ pub fn status_of(answer: Answer) -> u8
     ensures { result ≡ status_of answer }
 {
     match answer {
-        Answer::Order(_) => ORDER,
-        Answer::Ring(_) => RING,
-        Answer::Refused(_) => REFUSED,
+        Ok(Verdict::Order(_)) => ORDER,
+        Ok(Verdict::Ring(_)) => RING,
+        Err(_) => REFUSED,
     }
 }
 

@@ -5,7 +5,7 @@ use mathlib.Core.List.{List, ◌++◌}
 use native.Mathlib.Omega.{arith}
 use lib.ListN.{length}
 use Rattle.model.specs.declared.Header.{Header}
-use Rattle.model.specs.Refusals.{ok}
+use Rattle.model.specs.Refusals.{Ok}
 use Rattle.model.specs.Checks.{Accepted, accept, verdict_on, listed, answered}
 use Rattle.model.specs.Listings.{join, listing_of, printed, printed_of}
 use Rattle.model.proofs.Lists.{at_position}
@@ -14,19 +14,17 @@ use Rattle.record_facts.proofs.Bounds.{accepted_bounds}
 use Rattle.memory.specs.Tables.{Table, cells_size}
 use Rattle.memory.specs.Made.{table_of}
 use Rattle.graph.specs.Edges.{group_list}
-use Rattle.lines.specs.Lines.{answer_line}
 use Rattle.trails.specs.Trails.{trail_of}
 use Rattle.happens_before.proofs.Accepted.{TellableRun, accepted_tellable}
-use Rattle.verdicts.proofs.Answers.{answer_is}
 use Rattle.judging.specs.Told.{verdict_told}
 use Rattle.judging.proofs.Accepted.{verdict_told_lem, verdict_lists}
 use Rattle.first_items.specs.Firsts.{first_items}
 use Rattle.first_items.proofs.Accepted.{accepted_firsts}
 use Rattle.layout.specs.Lines.{bytes_of, group_lines_on, cell_lines_on, text_lines}
 use Rattle.listing.specs.Told.{text_of, printed_verdict}
-use Rattle.listing.proofs.Lines.{verdict_line, join_append, groups_lines, cells_lines}
+use Rattle.listing.proofs.Lines.{verdict_line, groups_counted, join_append, groups_lines, cells_lines}
 
-module _ (program start recorded : List ℕ) (a : Accepted) (accepted : accept program start recorded ≡ ok a) where
+module _ (program start recorded : List ℕ) (a : Accepted) (accepted : accept program start recorded ≡ Ok a) where
   abbrev header : Header
   header = a.program.header
 
@@ -53,8 +51,10 @@ module _ (program start recorded : List ℕ) (a : Accepted) (accepted : accept p
       let fits = (accepted_bounds program start recorded a accepted).header in
       let firsts = first_items header recorded trail items in
       ap₂ ◌++◌
-      (ap answer_line (answer_is v) ∙ verdict_line v)
-      (join_append (group_lines_on (group_list (listed v)) (length (listed v)) header recorded firsts)
+      (verdict_line v)
+      (ap (λ count. join (group_lines_on (group_list (listed v)) count header recorded firsts ++ cell_lines_on cells header.ranks header.cells))
+      (groups_counted v)
+      ∙ join_append (group_lines_on (group_list (listed v)) (length (listed v)) header recorded firsts)
       (cell_lines_on cells header.ranks header.cells)
       ∙ ap₂ ◌++◌
       (groups_lines (listed v) header recorded firsts a.run.events (omega (arith, lists.few, t.opened, t.few))
@@ -65,7 +65,7 @@ module _ (program start recorded : List ℕ) (a : Accepted) (accepted : accept p
 
   -- So what is printed is.
   pub accepted_printed : (memory : List ℕ) →
-      printed_verdict memory (verdict_told a.run.last.opened items trail) recorded header trail items cells ≡ printed_of memory (ok a)
+      printed_verdict memory (verdict_told a.run.last.opened items trail) recorded header trail items cells ≡ printed_of memory (Ok a)
   unfolding printed_verdict printed_of
   accepted_printed memory =
       ap (λ v. printed memory (answered v) (text_of v recorded header trail items cells)) (verdict_told_lem a.run t)

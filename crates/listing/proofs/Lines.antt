@@ -1,18 +1,18 @@
 -- The lines that the code makes for a run that tells its groups are the definition's lines of the run's events and of its last cells.
+use Rattle.std.specs.Prelude.{Some, slice_get}
 use Prim.Native.Nat.{ℕ, zero, suc, ◌+◌, ◌≤◌, ◌<◌}
 use mathlib.Core.Path.{◌≡◌, refl, sym, ap, ap₂, ◌∙◌}
 use mathlib.Core.List.{List, [], ◌∷◌, ◌++◌, map, map-id, append_assoc}
-use mathlib.Core.Option.{some}
 use native.Mathlib.Nat.{min-eq_left}
 use native.Mathlib.Omega.{arith}
 use lib.Dec.{eqb}
-use lib.ListN.{length, get_or, get_elem?, replicate}
+use lib.ListN.{length, get_or, replicate}
 use Rattle.model.specs.declared.Header.{Header}
 use Rattle.model.specs.Limits.{max_items, max_ranks, max_cells}
 use Rattle.model.specs.Choice.{numbers_from}
 use Rattle.model.specs.Replay.{Event}
 use Rattle.model.specs.Orders.{Verdict, ordered, cyclic}
-use Rattle.model.specs.Checks.{fill, listed, answered, for_each_rank, rank_by_rank}
+use Rattle.model.specs.Checks.{fill, listed, counted, answered, for_each_rank, rank_by_rank}
 use Rattle.model.specs.Listings.{decimal, line, group_line, group_lines, cell_line, join, verdict_word}
 use Rattle.model.proofs.Laws.{decided}
 use Rattle.memory.specs.Tables.{Table, cells_size, number_at}
@@ -21,14 +21,19 @@ use Rattle.memory.proofs.Filled.{made_holds}
 use Rattle.graph.specs.Edges.{group_list}
 use Rattle.graph.proofs.Edges.{read_each, filled_at}
 use Rattle.lines.specs.Lines.{answer_line, group_entry, cell_entry}
-use Rattle.first_items.specs.Firsts.{first_in, first_of}
-use Rattle.layout.specs.Lines.{bytes_of, rank_shown, first_line, group_line_on, group_lines_on, cell_line_on, cell_lines_on}
+use Rattle.first_items.specs.Firsts.{Firsts, first_in, first_of}
+use Rattle.layout.specs.Lines.{bytes_of, groups_told, rank_shown, first_line, group_line_on, group_lines_on, cell_line_on, cell_lines_on}
 
 -- The line of a verdict's answer.
 pub verdict_line : (v : Verdict) → answer_line (answered v) ≡ line (verdict_word v) (decimal (length (listed v)) ∷ [])
 unfolding answer_line
 verdict_line (ordered groups) = refl
 verdict_line (cyclic groups) = refl
+
+-- It counts the groups that are listed.
+pub groups_counted : (v : Verdict) → groups_told (counted v) ≡ length (listed v)
+groups_counted (ordered groups) = refl
+groups_counted (cyclic groups) = refl
 
 -- A group's line, by its first event.
 first_bytes : (g at : ℕ) (events : List Event) → bytes_of (first_line g (first_in g at events)) ≡ group_line g at events
@@ -47,12 +52,12 @@ join_groups [] events = refl
 join_groups (g ∷ groups) events = ap (λ l. group_line g 0 events ++ l) (join_groups groups events)
 
 -- Entries of a list of groups.
-listed_at : (l old : List ℕ) (i : ℕ) {g : ℕ} → get_elem? l i ≡ some g → get_or (fill l old) i 0 ≡ g
+listed_at : (l old : List ℕ) (i : ℕ) {g : ℕ} → slice_get l i ≡ Some g → get_or (fill l old) i 0 ≡ g
 listed_at l old i at = ap (λ x. get_or (fill x old) i 0) (sym (map-id l)) ∙ filled_at (λ x. x) l old 0 i at
 
 -- The lines of all groups, where each group's first item is the one of its first event.
-pub groups_lines : (l : List ℕ) (header : Header) (recorded : List ℕ) (firsts : Table) (events : List Event) → length l ≤ max_items →
-    ((i g : ℕ) → get_elem? l i ≡ some g → first_of header recorded firsts g ≡ first_in g 0 events) →
+pub groups_lines : (l : List ℕ) (header : Header) (recorded : List ℕ) (firsts : Firsts) (events : List Event) → length l ≤ max_items →
+    ((i g : ℕ) → slice_get l i ≡ Some g → first_of header recorded firsts g ≡ first_in g 0 events) →
     join (group_lines_on (group_list l) (length l) header recorded firsts) ≡ group_lines l events
 unfolding group_lines_on group_line_on
 groups_lines l header recorded firsts events few same =

@@ -4,12 +4,11 @@ use mathlib.Core.Path.{◌≡◌, sym, ap, ◌∙◌}
 use mathlib.Core.List.{List}
 use Rattle.model.specs.declared.Header.{Header}
 use Rattle.model.specs.declared.Refusal.{Refusal}
-use Rattle.model.specs.Refusals.{Result, refused}
+use Rattle.model.specs.Refusals.{Result, Ok, Err}
 use Rattle.model.specs.Checks.{Accepted, accept}
 use Rattle.model.specs.Listings.{Listing, printed_of, listing_in, listing}
 use Rattle.memory.specs.Tables.{Table, zeros}
-use Rattle.replay.specs.declared.Acceptance as Acceptance
-use Rattle.replay.specs.declared.Acceptance.{Acceptance}
+use Rattle.replay.specs.declared.Accepted as replayed
 use Rattle.replay.specs.Handed.{Lent, lent, HandsOver}
 use Rattle.replay.proofs.Accepting.{accept_refused, accept_found}
 use Rattle.trails.specs.Trails.{trail_size}
@@ -35,14 +34,14 @@ module _ (program start recorded memory : List ℕ) where
       verdict_listing header items groups cells trail ≡ verdict_listing header' items' groups' cells' trail'
   same_listing p q r s t = rw (p, q, r, s, t)
 
-  module _ {cells : Table} {after : Lent} {r : Acceptance} {end : Listing}
+  module _ {cells : Table} {after : Lent} {r : Result replayed.Accepted} {end : Listing}
       (handed : HandsOver program start recorded (lent cells (zeros trail_size)) after r) where
-    pub listed_refusal : {x : Refusal} → r ≡ Acceptance.TheVariants.Refused x → end ≡ printed_of memory (refused x) →
+    pub listed_refusal : {x : Refusal} → r ≡ Err x → end ≡ printed_of memory (Err x) →
         end ≡ listing program start recorded memory
     listed_refusal found prints = prints ∙ prints_of (accept_refused handed found)
 
-    pub listed_verdict : {header : Header} {items groups : ℕ} → r ≡ Acceptance.TheVariants.Accepted header items groups →
-        end ≡ printed_verdict memory (verdict_told groups items after.trail) recorded header after.trail items after.cells →
+    pub listed_verdict : {told : replayed.Accepted} → r ≡ Ok told →
+        end ≡ verdict_listing told.header told.items told.groups after.cells after.trail →
         end ≡ listing program start recorded memory
     listed_verdict found prints =
         let known = accept_found handed found in

@@ -1,26 +1,24 @@
 -- What is listed of an accepted record, by the arrays that the replay hands over.
-use Rattle.std.specs.Prelude.{ℕ, List, length}
-use Rattle.model.specs.declared.Answer.TheVariants.{Refused}
+use Rattle.std.specs.Prelude.{ℕ, List, Err}
 use Rattle.model.specs.declared.Header.{Header}
 use Rattle.model.specs.declared.Listed.{Listed}
 use Rattle.model.specs.Refusals.{memory_too_short}
 use Rattle.model.specs.Orders.{Verdict}
-use Rattle.model.specs.Checks.{listed, answered}
+use Rattle.model.specs.Checks.{listed, counted, answered}
 use Rattle.model.specs.Listings.{Listing, join, printed}
 use Rattle.memory.specs.Tables.{Table}
 use Rattle.graph.specs.Edges.{group_list}
-use Rattle.verdicts.specs.Judged.{is_cyclic}
 use Rattle.first_items.specs.Firsts.{first_items}
 use Rattle.layout.specs.Lines.{text_lines}
 
 -- The text of a verdict.
 unfoldable pub text_of : Verdict → (recorded : List ℕ) → Header → (trail : Table) → (items : ℕ) → (cells : Table) → List ℕ
 text_of v recorded header trail items cells =
-    join (text_lines (is_cyclic v) (group_list (listed v)) (length (listed v)) recorded header (first_items header recorded trail items) cells)
+    join (text_lines (counted v) (group_list (listed v)) recorded header (first_items header recorded trail items) cells)
 
 -- Where the lent bytes have no room for a text of this length: "15 with its length".
 abbrev pub too_short : (needed : ℕ) → Listed
-too_short needed = record { answer = Refused (record { number = memory_too_short; place = needed }); length = 0 }
+too_short needed = record { answer = Err (record { number = memory_too_short; place = needed }); length = 0 }
 
 -- An answer, with what the lent bytes hold then.
 abbrev pub printing : Listed → (memory : List ℕ) → Listing

@@ -7,12 +7,12 @@ ghost use Rattle.std.specs.Prelude.{◌≡◌};
 ghost use Rattle.model.specs.Listings as listings;
 ghost use Rattle.listing.specs.Told.{printing};
 
-use crate::printing::{print_refused, print_verdict};
+use crate::printing::{AcceptedRun, print_refused};
 use model::{CELLS, ITEMS, Listed, RANKS, TOLD};
-use replay::{Acceptance, replay};
+use replay::replay;
 
-// Lists a record of a program from a start into the front of `text`. The text is written whole or not at all: where `text` is too short, the answer is 15 with the
-// length that it would have, and nothing is written.
+// Lists a record of a program from a start into the front of `text`. The text is written whole or not at all: where `text` is too short, the answer
+// is 15 with the length that it would have, and nothing is written.
 pub fn listing(program: &[u8], start: &[u8], recorded: &[u8], text: &mut [u8]) -> Listed
     ensures { printing result text.new ≡
         listings.listing program.now start.now recorded.now text.old }
@@ -20,11 +20,15 @@ pub fn listing(program: &[u8], start: &[u8], recorded: &[u8], text: &mut [u8]) -
     let mut cells = [[0; CELLS]; RANKS];
     let mut trail = [[0; TOLD]; ITEMS];
     match replay(program, start, recorded, &mut cells, &mut trail) {
-        Acceptance::Refused(refusal) => print_refused(text, refusal),
-        Acceptance::Accepted {
-            header,
-            items,
-            groups,
-        } => print_verdict(text, recorded, header, &trail, items, groups, &cells),
+        Err(refusal) => print_refused(text, refusal),
+        Ok(accepted) => {
+            let run = AcceptedRun {
+                recorded,
+                accepted,
+                trail: &trail,
+                cells: &cells,
+            };
+            run.print(text)
+        }
     }
 }

@@ -1,139 +1,173 @@
--- The two forms of a lent list, numbers and bytes, under one set of laws: what is written behind what is filled is filled too. From this alone follow
--- a whole list at the front, and cells rank after rank.
+-- What is written behind what is filled is filled too. From this alone follow a whole list at the front, and cells rank after rank. The forms of a lent
+-- list are numbers and bytes.
+use Rattle.std.specs.Prelude.{flat_map, true, false}
 use Prim.Native.Nat.{ℕ, ◌+◌, ◌*◌, ◌/◌, ◌≤◌, ◌<◌}
 use mathlib.Core.Path.{◌≡◌, refl, sym, ap, ◌∙◌}
-use mathlib.Core.List.{List, [], ◌++◌, map}
-use native.Mathlib.Nat.{mul-le-mul, mul-le-mul_right, suc-mul}
+use mathlib.Core.List.{List, [], ◌∷◌, ◌++◌, map}
+use native.Mathlib.Nat.{mul-add, mul-div-le, mul-le-mul_left, mul-le-mul_right, suc-mul, min-le_left}
 use native.Mathlib.Numerals.{add-one}
 use native.Mathlib.Omega.{arith}
-use lib.ListN.{length, take, drop, get_or, length-append, length-drop}
-use lib.Seq.{length-take-le, get_or-take, take-append_seam}
+use lib.ListN.{length, take, drop, get_or, length-append, length-drop, length-take}
+use lib.Seq.{paste, length-take-le, get_or-take, take-append_seam, take_all, drop-append-add, drop-drop}
+use Rattle.std.proofs.lemmas.List.Concat.{flat_map-append}
+use Rattle.model.specs.Bytes.{word_bytes}
 use Rattle.model.specs.Limits.{max_ranks, max_cells}
 use Rattle.model.specs.Choice.{numbers_from}
 use Rattle.model.specs.Checks.{fill, entry_bytes}
 use Rattle.memory.specs.Tables.{Table, cells_size, number_at}
 use Rattle.memory.proofs.Tables.{number_inside}
 use Rattle.memory.proofs.Filled.{list_of, number_row_lem}
-use Rattle.lists.specs.Written.{numbers_written, words_written, cells_listed, CellsFit}
+use Rattle.model.proofs.Laws.{when_true, when_false}
+use Rattle.lists.specs.Written.{itself, entries_written, cells_fit, cell_entries_written, cells_listed, CellsFit}
 use Rattle.lists.proofs.Room.{true_fits}
-use Rattle.lists.proofs.Pasted.{paste_fill, entry_none, entry_length, entry_append, entry_take}
+use Rattle.lists.proofs.Entries.{elements_length}
 use Rattle.lists.proofs.Ranks.{rank_more, rank_none, rank_length_lem}
 
 pub fill_length : {A : Type 0} (new old : List A) → length new ≤ length old → length (fill new old) ≡ length old
 unfolding fill
 fill_length new old h = simp (length-append, length-drop) (omega arith)
 
--- A form: how entries stand in a list, for how many a list has room, and what it holds after numbers are written.
-pub record Form : Type 0 where
-  pub shown : List ℕ → List ℕ
-  pub entries : List ℕ → ℕ
-  pub written : List ℕ → ℕ → List ℕ → ℕ → List ℕ
-  pub none : shown [] ≡ []
-  pub further : (new old numbers : List ℕ) (count : ℕ) → count ≤ length numbers → length new + count ≤ entries old →
-      written (fill (shown new) old) (length new) numbers count ≡ fill (shown (new ++ take count numbers)) old
+-- What is pasted right behind what is filled is filled too.
+pub paste_fill : {A : Type 0} (new old numbers : List A) (count : ℕ) → count ≤ length numbers →
+    paste (fill new old) (length new) numbers count ≡ fill (new ++ take count numbers) old
+unfolding fill
+paste_fill {A} new old numbers count enough =
+    let rest : List A = drop (length new) old in
+    let size : length (new ++ take count numbers) ≡ length new + count =
+    length-append new (take count numbers) ∙ ap (λ n. length new + n) (length-take-le count numbers enough) in
+    rw (size, take-append_seam new rest, drop-append-add new rest count, drop-drop count (length new) old)
 
-pub numbers_further : (new old numbers : List ℕ) (count : ℕ) → count ≤ length numbers → length new + count ≤ length old →
-    numbers_written (fill new old) (length new) numbers count ≡ fill (new ++ take count numbers) old
-unfolding numbers_written
-numbers_further new old numbers count enough inside =
-    let size : length (fill new old) ≡ length old = fill_length new old (omega arith) in
-    rw (size, true_fits (length old) (length new) (length numbers) count enough inside) (paste_fill new old numbers count enough)
+module _ {A : Type 0} (width : ℕ) (shown : ℕ → List A) (wide : (n : ℕ) → length (shown n) ≡ width) where
+  abbrev all : List ℕ → List A
+  all = flat_map shown
 
-pub words_further : (new old numbers : List ℕ) (count : ℕ) → count ≤ length numbers → length new + count ≤ length old / 2 →
-    words_written (fill (entry_bytes new) old) (length new) numbers count ≡ fill (entry_bytes (new ++ take count numbers)) old
-unfolding words_written
-words_further new old numbers count enough inside =
-    let few : length (entry_bytes new) ≤ length old = omega (arith, entry_length new) in
-    let more : 2 * count ≤ length (entry_bytes numbers) = omega (arith, entry_length numbers) in
-    rw (fill_length (entry_bytes new) old few, true_fits (length old / 2) (length new) (length numbers) count enough inside, ← entry_length new)
-    (paste_fill (entry_bytes new) old (entry_bytes numbers) (2 * count) more
-    ∙ ap (λ l. fill l old) (ap (λ l. entry_bytes new ++ l) (entry_take count numbers) ∙ sym (entry_append new (take count numbers))))
+  pub written_further : (new : List ℕ) (old : List A) (numbers : List ℕ) (count : ℕ) → count ≤ length numbers → length new + count ≤ length old / width →
+      entries_written width shown (fill (all new) old) (length new) numbers count ≡ fill (all (new ++ take count numbers)) old
+  unfolding entries_written
+  written_further new old numbers count enough inside =
+      let front = elements_length width shown wide new in
+      let room : width * (length new + count) ≤ width * (length old / width) = mul-le-mul_left width inside in
+      let few : length (all new) ≤ length old = omega (arith, front, room, mul-add width (length new) count, mul-div-le (length old) width) in
+      let long : length (all (take count numbers)) ≡ width * count =
+      elements_length width shown wide (take count numbers) ∙ ap (λ n. width * n) (length-take-le count numbers enough) in
+      rw (fill_length (all new) old few, true_fits (length old / width) (length new) (length numbers) count enough inside, ← front)
+      (paste_fill (all new) old (all (take count numbers)) (width * count) (omega (arith, long))
+      ∙ ap (λ l. fill (all new ++ l) old) (take_all (width * count) (all (take count numbers)) (omega (arith, long)))
+      ∙ ap (λ l. fill l old) (sym (flat_map-append shown new (take count numbers))))
 
-abbrev pub as_numbers : Form
-as_numbers = record { shown = λ l. l; entries = length; written = numbers_written; none = refl; further = numbers_further }
-
-abbrev pub as_words : Form
-as_words =
-    record {
-      shown = entry_bytes;
-      entries = λ bytes. length bytes / 2;
-      written = words_written;
-      none = entry_none;
-      further = words_further;
-    }
-
-module _ (form : Form) where
   -- Numbers that fill the front of an array, written to the front of a list.
-  pub filled_written : (numbers list rest : List ℕ) (count : ℕ) → count ≡ length numbers → length numbers ≤ form.entries list →
-      form.written list 0 (fill numbers rest) count ≡ fill (form.shown numbers) list
+  pub filled_written : (numbers : List ℕ) (list : List A) (rest : List ℕ) (count : ℕ) → count ≡ length numbers → length numbers ≤ length list / width →
+      entries_written width shown list 0 (fill numbers rest) count ≡ fill (all numbers) list
   unfolding fill
   filled_written numbers list rest count e room =
       let enough : length numbers ≤ length (fill numbers rest) = simp (length-append, length-drop) (omega arith) in
       rw e
-      (ap (λ l. form.written l 0 (fill numbers rest) (length numbers)) (sym (ap (λ l. fill l list) form.none))
-      ∙ form.further [] list (fill numbers rest) (length numbers) enough (omega arith)
-      ∙ ap (λ l. fill (form.shown l) list) (take-append_seam numbers (drop (length numbers) rest)))
+      (written_further [] list (fill numbers rest) (length numbers) enough (omega arith)
+      ∙ ap (λ l. fill (all l) list) (take-append_seam numbers (drop (length numbers) rest)))
 
 -- A list into which the cells of so many of the ranks are written.
-pub record Listing (form : Form) (old : List ℕ) (cells : Table) (ranks width row : ℕ) (now : List ℕ) : Type 0 where
-  pub fit : CellsFit (form.entries old) ranks width
+pub record Listing {A : Type 0} (width : ℕ) (shown : ℕ → List A) (old : List A) (cells : Table) (ranks count row : ℕ) (now : List A) : Type 0 where
+  pub fit : CellsFit (length old / width) ranks count
   pub within : row ≤ ranks
-  pub long : length now ≡ length old
-  pub made : now ≡ fill (form.shown (cells_listed cells row width)) old
+  pub made : now ≡ fill (flat_map shown (cells_listed cells row count)) old
 
-module _ (form : Form) (old : List ℕ) (cells : Table) (ranks width : ℕ) where
-  pub listing_none : CellsFit (form.entries old) ranks width → Listing form old cells ranks width 0 old
+-- The cells of a row of the table are those of its rank.
+row_cells : (cells : Table) (count row : ℕ) → row < max_ranks → count ≤ max_cells → length (get_or cells row []) ≡ max_cells →
+    take count (get_or cells row []) ≡ map (number_at cells_size cells (1 + row)) (numbers_from 0 count)
+row_cells cells count row few narrow wide =
+    list_of (number_at cells_size cells (1 + row)) 0 count 0 (take count (get_or cells row []))
+    (length-take-le count (get_or cells row []) (omega arith))
+    (λ i b.
+    let z : 0 + i ≡ i = omega arith in
+    get_or-take count (get_or cells row []) i 0 b
+    ∙ number_inside cells_size cells (1 + row) row (sym (number_row_lem max_ranks row few)) i few (omega arith)
+    ∙ ap (number_at cells_size cells (1 + row)) (sym z))
+
+module _ {A : Type 0} (width : ℕ) (shown : ℕ → List A) (wide : (n : ℕ) → length (shown n) ≡ width) (old : List A) (cells : Table)
+    (ranks count : ℕ) where
+  pub listing_none : CellsFit (length old / width) ranks count → Listing width shown old cells ranks count 0 old
   unfolding fill
   listing_none fit =
       record {
         fit = fit;
         within = omega arith;
-        long = refl;
-        made = sym (ap (λ l. fill (form.shown l) old) (rank_none width (number_at cells_size cells)) ∙ ap (λ l. fill l old) form.none);
+        made = sym (ap (λ l. fill (flat_map shown l) old) (rank_none count (number_at cells_size cells)));
       }
 
-  -- Where the next rank's cells go is a small number.
-  pub row_place : {row : ℕ} {now : List ℕ} → Listing form old cells ranks width row now → row * width ≤ max_ranks * max_cells
-  row_place {row} so_far =
-      let few : row ≤ max_ranks = omega (arith, so_far.within, so_far.fit.few_ranks) in
-      mul-le-mul few so_far.fit.few_cells
-
-  -- The cells of a row of the table are those of its rank.
-  row_cells : (row : ℕ) → row < max_ranks → width ≤ max_cells → length (get_or cells row []) ≡ max_cells →
-      take width (get_or cells row []) ≡ map (number_at cells_size cells (1 + row)) (numbers_from 0 width)
-  row_cells row few narrow wide =
-      list_of (number_at cells_size cells (1 + row)) 0 width 0 (take width (get_or cells row []))
-      (length-take-le width (get_or cells row []) (omega arith))
-      (λ i b.
-      let z : 0 + i ≡ i = omega arith in
-      get_or-take width (get_or cells row []) i 0 b
-      ∙ number_inside cells_size cells (1 + row) row (sym (number_row_lem max_ranks row few)) i few (omega arith)
-      ∙ ap (number_at cells_size cells (1 + row)) (sym z))
-
-  pub listing_more : {row : ℕ} {now : List ℕ} → Listing form old cells ranks width row now → row < ranks → length (get_or cells row []) ≡ max_cells →
-      (after : List ℕ) → after ≡ form.written now (row * width) (get_or cells row []) width → length after ≡ length now →
-      Listing form old cells ranks width (row + 1) after
-  listing_more {row} {now} so_far more wide after e long =
+  pub listing_more : {row : ℕ} {now : List A} → Listing width shown old cells ranks count row now → row < length (take ranks cells) →
+      length (get_or (take ranks cells) row []) ≡ max_cells →
+      (after : List A) → after ≡ entries_written width shown now (row * count) (get_or (take ranks cells) row []) count →
+      Listing width shown old cells ranks count (row + 1) after
+  listing_more {row} {now} so_far next taken after e =
+      let more : row < ranks = omega (arith, length-take ranks cells, min-le_left ranks (length cells)) in
+      let same = get_or-take ranks cells row [] more in
+      let long : length (get_or cells row []) ≡ max_cells = ap length (sym same) ∙ taken in
       let f = number_at cells_size cells in
       let few : row < max_ranks = omega (arith, so_far.fit.few_ranks) in
-      let enough : width ≤ length (get_or cells row []) = omega (arith, so_far.fit.few_cells) in
-      let last : (row + 1) * width ≤ ranks * width = mul-le-mul_right width (omega arith) in
-      let inside : length (cells_listed cells row width) + width ≤ form.entries old =
-      rw (rank_length_lem width f row) (omega (arith, so_far.fit.room, suc-mul row width, add-one row)) in
+      let enough : count ≤ length (get_or cells row []) = omega (arith, so_far.fit.few_cells) in
+      let last : (row + 1) * count ≤ ranks * count = mul-le-mul_right count (omega arith) in
+      let inside : length (cells_listed cells row count) + count ≤ length old / width =
+      rw (rank_length_lem count f row) (omega (arith, so_far.fit.room, suc-mul row count, add-one row)) in
       record {
         fit = so_far.fit;
         within = omega arith;
-        long = long ∙ so_far.long;
         made =
             e
-            ∙ rw (so_far.made, ← rank_length_lem width f row)
-            (form.further (cells_listed cells row width) old (get_or cells row []) width enough inside
-            ∙ ap (λ l. fill (form.shown l) old)
-            (ap (λ l. cells_listed cells row width ++ l) (row_cells row few so_far.fit.few_cells wide) ∙ sym (rank_more width f row)));
+            ∙ ap (λ l. entries_written width shown now (row * count) l count) same
+            ∙ rw (so_far.made, ← rank_length_lem count f row)
+            (written_further width shown wide (cells_listed cells row count) old (get_or cells row []) count enough inside
+            ∙ ap (λ l. fill (flat_map shown l) old)
+            (ap (λ l. cells_listed cells row count ++ l) (row_cells cells count row few so_far.fit.few_cells long) ∙ sym (rank_more count f row)));
       }
 
-  pub listing_all : {row : ℕ} {now : List ℕ} → Listing form old cells ranks width row now → ranks ≤ row →
-      now ≡ fill (form.shown (cells_listed cells ranks width)) old
+module _ {A : Type 0} (width : ℕ) (shown : ℕ → List A) (old : List A) (cells : Table) (ranks count : ℕ) where
+  pub listing_all : {row : ℕ} {now : List A} → Listing width shown old cells ranks count row now → ranks ≤ row →
+      now ≡ fill (flat_map shown (cells_listed cells ranks count)) old
   listing_all {row} so_far h =
       let e : row ≡ ranks = omega (arith, so_far.within) in
-      so_far.made ∙ ap (λ n. fill (form.shown (cells_listed cells n width)) old) e
+      so_far.made ∙ ap (λ n. fill (flat_map shown (cells_listed cells n count)) old) e
+
+-- An entry of numbers is the number itself, and one of bytes is two.
+pub numbers_themselves : (numbers : List ℕ) → flat_map itself numbers ≡ numbers
+numbers_themselves [] = refl
+numbers_themselves (n ∷ numbers) = ap (λ l. n ∷ l) (numbers_themselves numbers)
+
+pub numbers_as_words : (numbers : List ℕ) → flat_map word_bytes numbers ≡ entry_bytes numbers
+unfolding entry_bytes
+numbers_as_words [] = refl
+numbers_as_words (n ∷ numbers) = ap (λ l. word_bytes n ++ l) (numbers_as_words numbers)
+
+pub entry_none : entry_bytes [] ≡ []
+unfolding entry_bytes
+entry_none = refl
+
+pub entry_length : (numbers : List ℕ) → length (entry_bytes numbers) ≡ 2 * length numbers
+unfolding entry_bytes
+entry_length [] = refl
+entry_length (n ∷ numbers) = omega (arith, entry_length numbers)
+
+-- A form: how entries stand in a list, and for how many a list has room.
+pub record Form : Type 0 where
+  pub shown : List ℕ → List ℕ
+  pub entries : List ℕ → ℕ
+  pub none : shown [] ≡ []
+
+abbrev pub as_numbers : Form
+as_numbers = record { shown = λ l. l; entries = length; none = refl }
+
+abbrev pub as_words : Form
+as_words = record { shown = entry_bytes; entries = λ bytes. length bytes / 2; none = entry_none }
+
+-- Cells, and where they are none.
+module _ {A : Type 0} {width own : ℕ} (is : width ≡ own) (shown : ℕ → List A) (list : List A) (cells : Table) (ranks count : ℕ) where
+  pub no_cells : cells_fit (length list / width) ranks count ≡ false → list ≡ cell_entries_written own shown list cells ranks count
+  unfolding cell_entries_written
+  no_cells short = sym (when_false _ _ (rw is at short))
+
+  pub all_cells : cells_fit (length list / width) ranks count ≡ true → {now : List A} {row : ℕ} →
+      Listing own shown list cells ranks count row now → length cells ≡ max_ranks → length (take ranks cells) ≤ row →
+      now ≡ cell_entries_written own shown list cells ranks count
+  unfolding cell_entries_written
+  all_cells fit {row = row} so_far long done =
+      let all : ranks ≤ row = omega (arith, so_far.fit.few_ranks, long, length-take-le ranks cells (omega (arith, so_far.fit.few_ranks, long))) in
+      listing_all own shown list cells ranks count so_far all ∙ sym (when_true _ _ (rw is at fit))

@@ -1,5 +1,5 @@
 pub mod Room
-pub mod Pasted
+pub mod Entries
 pub mod Ranks
 pub mod Forms
 pub mod Lending

@@ -1,21 +1,13 @@
 -- The tests of whether there is room, as facts.
 use Prim.Native.Nat.{ℕ, ◌+◌, ◌-◌, ◌*◌, ◌≤◌}
-use mathlib.Core.Path.{◌≡◌, sym, ◌∙◌}
-use mathlib.Core.Bool.{Bool, true, false, not, ◌&&◌}
+use mathlib.Core.Path.{◌≡◌}
+use mathlib.Core.Bool.{true, ◌&&◌}
 use native.Mathlib.Omega.{arith}
 use lib.Dec.{leb}
-use borrow.Author.Tests.{leb-true, le-leb, not-true, not-false}
+use borrow.Author.Tests.{leb-true, le-leb}
 use Rattle.model.specs.Limits.{max_ranks, max_cells}
 use Rattle.model.proofs.Laws.{and-true}
 use Rattle.lists.specs.Written.{fits, cells_fit, CellsFit}
-
--- A test that a function made for its caller.
-module _ {made test : Bool} (e : made ≡ test) where
-  pub passed : not made ≡ false → test ≡ true
-  passed h = sym e ∙ not-false made h
-
-  pub failed : not made ≡ true → test ≡ false
-  failed h = sym e ∙ not-true made h
 
 pub record Fits (entries at given count : ℕ) : Type 0 where
   pub enough : count ≤ given

@@ -1,23 +1,22 @@
 -- The step on arrays agrees with the definition's step, from every state that the arrays stand for. The two go through the same tests; at each one
 -- that both pass, what they look at is the same, since the arrays hold it.
+use Rattle.std.specs.Prelude.{Option}
 use Prim.Native.Nat.{ℕ, ◌+◌, ◌≤◌, ◌<◌}
 use mathlib.Core.Path.{◌≡◌, refl}
 use mathlib.Core.Bool.{Bool, true, false}
-use mathlib.Core.Option.{Option}
 use native.Mathlib.Omega.{arith}
 use borrow.Author.Tests.{lt-ltb}
 use Rattle.model.specs.declared.Item.{Item}
 use Rattle.model.specs.Limits.{max_items}
-use Rattle.model.specs.Refusals.{Result, ok, refused, require, ◌>>=◌, access_differs}
+use Rattle.model.specs.Refusals.{Result, Ok, Err, require, ◌>>=◌, access_differs}
 use Rattle.model.specs.Machine.{Access}
 use Rattle.model.specs.Replay.{Replay, Taken, joins_row, opened_after, agrees_with, agreed}
 use Rattle.model.proofs.Laws.{decided}
 use Rattle.items.specs.declared.rows.Progress.{Progress}
-use Rattle.machine.specs.declared.Outcome.{Outcome}
 use Rattle.machine.specs.Arrays.{Memory}
 use Rattle.items.specs.Progress.{count_up, opened_next}
 use Rattle.machine.specs.Standing.{Standing, Agree, Follows}
-use Rattle.machine.specs.Outcomes.{Left, Does, outcome_of, memory_after, agreed_on}
+use Rattle.machine.specs.Outcomes.{Left, Does, Outcome, outcome_of, memory_after, agreed_on}
 
 -- The definition's result and that of the step on arrays, from these arrays.
 abbrev pub Together : (at : ℕ) → Memory → Result Taken → Result Left → Type 0
@@ -34,9 +33,9 @@ together_test at m true number f g next = next refl
 together_test at m false number f g next = refl
 
 pub together_value : {A : Type 0} (at : ℕ) (m : Memory) (result : Result A) (f : A → Result Taken) (g : A → Result Left) →
-    ((a : A) → result ≡ ok a → Together at m (f a) (g a)) → Together at m (result >>= f) (result >>= g)
-together_value at m (ok a) f g next = next a refl
-together_value at m (refused r) f g next = refl
+    ((a : A) → result ≡ Ok a → Together at m (f a) (g a)) → Together at m (result >>= f) (result >>= g)
+together_value at m (Ok a) f g next = next a refl
+together_value at m (Err r) f g next = refl
 
 -- An item that agrees with its access.
 pub together_agreed : (at : ℕ) (m : Memory) (t : Taken) (access : Option Access) (l : Left) →

@@ -1,7 +1,8 @@
 -- The contents of the machine's arrays, as one thing.
 use Rattle.std.specs.Prelude.{ℕ, List}
 use Rattle.memory.specs.Tables.{Table, cells_size, number_at}
-use Rattle.links.specs.Lists.{Queues, tables}
+use Rattle.links.specs.declared.Queues.{Queues}
+use Rattle.machine.specs.declared.Machine.{Machine}
 
 pub record Memory : Type 0 where
   pub control : List ℕ
@@ -9,9 +10,9 @@ pub record Memory : Type 0 where
   pub cells : Table
   pub queues : Queues
 
-abbrev pub memory : (control : List ℕ) → (registers cells pool ends : Table) → Memory
-memory control registers cells pool ends =
-    record { control = control; registers = registers; cells = cells; queues = tables pool ends }
+-- The machine's own arrays, and the cells that it was lent.
+abbrev pub memory : Machine → (cells : Table) → Memory
+memory m cells = record { control = m.control; registers = m.registers; cells = cells; queues = m.queues }
 
 -- The cells by rank and number.
 abbrev pub cells_in : Memory → ℕ → ℕ → ℕ

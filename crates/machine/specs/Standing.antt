@@ -1,6 +1,6 @@
 -- How the machine's arrays stand for the definition's state, and what it means that the definition and the code take an item alike.
 use Rattle.std.specs.Prelude.{ℕ, ◌+◌, ◌≤◌, ◌≡◌}
-use Rattle.model.specs.Refusals.{Result, ok, refused}
+use Rattle.model.specs.Refusals.{Result, Ok, Err}
 use Rattle.model.specs.Machine.{State}
 use Rattle.model.specs.Replay.{Origin, Replay, Taken}
 use Rattle.memory.specs.Tables.{registers_size, cells_size}
@@ -8,9 +8,8 @@ use Rattle.memory.specs.Tied.{Controls, Whole, Below}
 use Rattle.queues.specs.Queued.{Queued}
 use Rattle.items.specs.declared.rows.Progress.{Progress}
 use Rattle.items.specs.Accesses.{access_number}
-use Rattle.machine.specs.declared.Outcome as Outcome
-use Rattle.machine.specs.declared.Outcome.{Outcome}
 use Rattle.machine.specs.Arrays.{Memory}
+use Rattle.machine.specs.Outcomes.{Outcome}
 
 -- The arrays hold the machine's state after at most so many items.
 pub record Holds (most : ℕ) (m : Memory) (s : State Origin) : Type 0 where
@@ -35,7 +34,7 @@ pub record Follows (at : ℕ) (t : Taken) (after : Memory) (next : Progress) (gr
 
 -- Both take the item alike, or both refuse it alike.
 abbrev pub Agree : (at : ℕ) → Result Taken → (after : Memory) → Outcome → Type 0
-Agree at (ok t) after (Outcome.TheVariants.Taken next group access) = Follows at t after next group access
-Agree at (ok t) after (Outcome.TheVariants.Refused r) = ⊥
-Agree at (refused r) after (Outcome.TheVariants.Taken next group access) = ⊥
-Agree at (refused r) after (Outcome.TheVariants.Refused r') = r ≡ r'
+Agree at (Ok t) after (Ok a) = Follows at t after a.next a.group a.access
+Agree at (Ok t) after (Err r) = ⊥
+Agree at (Err r) after (Ok a) = ⊥
+Agree at (Err r) after (Err r') = r ≡ r'

@@ -3,7 +3,16 @@
 #![tactic(auto)]
 
 use items::rows::Progress;
-use model::{Header, Item, Refusal};
+use links::Queues;
+use model::{Control, Header, Item, Refusal, Registers};
+
+// The machine but for its cells, which the caller of the replay lends: the control states, the registers and the queues of all ranks.
+#[derive(Drop)]
+pub struct Machine {
+    pub control: Control,
+    pub registers: Registers,
+    pub queues: Queues,
+}
 
 // An item in its turn: how far the replay is before it, the item, and the program's numbers. Progress stands first, so that it is copied in whole
 // words.
@@ -14,13 +23,13 @@ pub struct Turn {
     pub header: Header,
 }
 
-// An item taken: how far the replay is then, the item's group and the number of its access; or the refusal.
+// What an item that was taken comes to: how far the replay is then, the item's group and the number of its access.
 #[derive(Clone, Copy)]
-pub enum Outcome {
-    Taken {
-        next: Progress,
-        group: u16,
-        access: u16,
-    },
-    Refused(Refusal),
+pub struct Advance {
+    pub next: Progress,
+    pub group: u16,
+    pub access: u16,
 }
+
+// An item taken, or the refusal.
+pub type Outcome = Result<Advance, Refusal>;

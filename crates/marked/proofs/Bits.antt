@@ -1,11 +1,10 @@
 -- The bits of a map: the lowest one and then those of the map without it, and as many as the map has ones.
-use Prim.Native.Nat.{ℕ, ◌+◌, ◌-◌, ◌^◌, ◌≤◌, ◌<◌, zero-le}
+use Prim.Native.Nat.{ℕ, ◌+◌, ◌^◌, ◌≤◌, ◌<◌, zero-le}
 use mathlib.Core.Path.{◌≡◌, refl, sym, ap, ◌∙◌}
 use mathlib.Core.Bool.{Bool, true, false}
-use mathlib.Core.List.{[], ◌∷◌}
+use mathlib.Core.List.{List, [], ◌∷◌}
 use native.Mathlib.Nat.{zero-add}
 use native.Mathlib.Omega.{arith}
-use lib.Bits.{and_le_r}
 use lib.Count.{ones}
 use lib.Dec.{ltb}
 use lib.ListN.{length}
@@ -13,7 +12,7 @@ use Rattle.model.specs.Choice.{when, bit, select, numbers_from}
 use Rattle.bitmap.specs.Bitmaps.{without_lowest}
 use Rattle.bitmap.proofs.Bits.{Nonzero, bit_zero, lowest_fits, bit_lowest, bit_below_lowest, bit_without, bit_beyond}
 use Rattle.marked.specs.Maps.{map_bits, bits_of, lowest_bit}
-use Rattle.marked.proofs.Numbers.{numbers_same, numbers_none, numbers_lowest, numbers_front}
+use Rattle.marked.proofs.Numbers.{numbers_same, numbers_none, numbers_lowest, numbers_front, first_below}
 use Rattle.marked.proofs.MarkedMaps.{map_ones, map_is}
 
 pub bits_none : bits_of 0 ≡ []
@@ -32,9 +31,10 @@ module _ (map : ℕ) (some : Nonzero map_bits map) where
       (λ i below. bit_below_lowest map_bits map i below) (λ i. bit_without map_bits map i some) 0 map_bits zero-le
       (omega (arith, bit_fits))
 
--- The map falls with each bit that is taken.
-pub map_falls : (map : ℕ) → ¬ (map ≡ 0) → without_lowest map < map
-map_falls map some = omega (arith, some, and_le_r map (map - 1))
+-- A bit that comes first has an entry.
+pub bit_inside : (map : ℕ) {i : ℕ} {rest : List ℕ} → bits_of map ≡ i ∷ rest → i < map_bits
+unfolding bits_of
+bit_inside map is = first_below (λ i. bit i map) 0 map_bits is
 
 -- A map of so many numbers has no bit beyond them.
 pub bits_few : (map count : ℕ) → count ≤ map_bits → map < 2 ^ count → bits_of map ≡ select (λ i. bit i map) (numbers_from 0 count)

@@ -2,6 +2,4 @@
 pub mod Numbers
 pub mod MarkedMaps
 pub mod Bits
-pub mod Turns
 pub mod Reading
-pub mod Ends

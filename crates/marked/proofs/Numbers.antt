@@ -91,3 +91,15 @@ numbers_front p few (suc count) h none =
     ap (select p) all
     ∙ select_other p (numbers_from 0 count) count (none count (omega arith) (omega arith))
     ∙ numbers_front p few count (omega arith) (λ n low high. none n low (omega arith)))
+
+-- What is selected first is one of the numbers.
+pub first_below : (p : ℕ → Bool) (first count : ℕ) {x : ℕ} {l : List ℕ} → select p (numbers_from first count) ≡ x ∷ l → x < first + count
+unfolding numbers_from select
+first_below p first zero is = cc
+first_below p first (suc count) {x} {l} is =
+    decided (p first)
+    (λ t.
+    let all : first ∷ select p (numbers_from (first + 1) count) ≡ x ∷ l = rw t at is in
+    let e : first ≡ x = cc in
+    omega arith)
+    (λ t. let rest = first_below p (first + 1) count (rw t at is) in omega arith)

@@ -1,4 +1,5 @@
 -- The reader that goes by the map's bits is the definition's, which goes number by number.
+use Rattle.model.specs.declared.Found.{Found}
 use Prim.Native.Nat.{ℕ, zero, suc, ◌+◌, ◌-◌, ◌^◌, ◌≤◌, ◌<◌}
 use mathlib.Core.Path.{◌≡◌, refl, sym, ap, ◌∙◌}
 use mathlib.Core.Bool.{Bool}
@@ -7,9 +8,9 @@ use native.Mathlib.Omega.{arith}
 use lib.ListN.{length, set, replicate, length-append, replicate-append-replicate}
 use lib.Seq.{set_at, append_snoc}
 use Rattle.model.specs.Refusals as Refusals
-use Rattle.model.specs.Refusals.{Result, ok, refused}
+use Rattle.model.specs.Refusals.{Result, Ok, Err}
 use Rattle.model.specs.Choice.{bit, select, numbers_from}
-use Rattle.model.specs.Bytes.{Found, found, optional}
+use Rattle.model.specs.Bytes.{found, optional}
 use Rattle.model.specs.Marked.{read_marked}
 use Rattle.model.proofs.Laws.{decided}
 use Rattle.model.proofs.Bytes.{Finds, finds_anything, finds_bind, finds_pure}
@@ -39,8 +40,8 @@ one_longer done value at long = length-append done (value ∷ []) ∙ ap (λ n. 
 -- Where a value is known, it may be placed first or last.
 placed_first : (done rest : List ℕ) (value : ℕ) (m : Result (Found (List ℕ))) →
     placed (done ++ value ∷ []) rest m ≡ placed done rest (Refusals.◌>>=◌ m (λ f. found (value ∷ f.value) f.next))
-placed_first done rest value (ok f) = ap (λ l. found l f.next) (sym (one_behind done value f.value rest))
-placed_first done rest value (refused r) = refl
+placed_first done rest value (Ok f) = ap (λ l. found l f.next) (sym (one_behind done value f.value rest))
+placed_first done rest value (Err r) = refl
 
 module _ (first most fault map : ℕ) (bytes : List ℕ) where
   abbrev bit_of : ℕ → Bool
@@ -76,10 +77,10 @@ module _ (first most fault map : ℕ) (bytes : List ℕ) where
           ≡ placed done rest
           (Refusals.◌>>=◌ m
           (λ g. Refusals.◌>>=◌ (marked_from (i + 1) count g.next) (λ h. found (g.value ∷ h.value) h.next)))
-      go further (ok g) =
+      go further (Ok g) =
           rw (one_placed count done rest g.value i long)
           (further g.value g.next ∙ placed_first done rest g.value (marked_from (i + 1) count g.next))
-      go further (refused r) = refl
+      go further (Err r) = refl
 
   -- The values of the first numbers, and 0 for every bit beyond.
   pub values_placed : (count : ℕ) → count ≤ map_bits → map < 2 ^ count → (at : ℕ) →

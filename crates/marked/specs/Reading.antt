@@ -1,11 +1,7 @@
 -- Values read by a map's bits, lowest first, each into the entry of its bit.
 use Rattle.std.specs.Prelude.{ℕ, List, [], ◌∷◌, set}
-use Rattle.model.specs.Refusals.{Result, ok, refused}
 use Rattle.model.specs.Choice.{between}
-use Rattle.model.specs.Bytes.{Reader, Found, ◌>>=◌, pure, word, judged}
-use Rattle.marked.specs.declared.reader.Ended.{Ended}
-use Rattle.marked.specs.declared.reader.Ended.TheVariants.{At, Refused}
-use Rattle.marked.specs.declared.reader.ValuesRead.{ValuesRead}
+use Rattle.model.specs.Bytes.{Reader, ◌>>=◌, pure, word, judged}
 use Rattle.marked.specs.Maps.{bits_of, no_values}
 
 -- A value, 1 to `most`.
@@ -19,13 +15,3 @@ read_bits most fault (i ∷ bits) values = value_reader most fault >>= (λ value
 
 unfoldable pub values_at : (most fault map : ℕ) → Reader (List ℕ)
 values_at most fault map = read_bits most fault (bits_of map) no_values
-
--- Where a reader ends, or its refusal.
-abbrev pub ended_of : {A : Type 0} → Result (Found A) → Ended
-ended_of (ok f) = At f.next
-ended_of (refused r) = Refused r
-
--- What reading the values answers.
-abbrev pub values_read : Result (Found (List ℕ)) → ValuesRead
-values_read (ok f) = record { ended = At f.next; values = f.value }
-values_read (refused r) = record { ended = Refused r; values = no_values }

@@ -1,17 +1,25 @@
 // The bits of a map, in turn.
-ghost use Rattle.std.specs.Prelude.{◌≡◌};
-ghost use Rattle.marked.specs.Maps.{lowest_bit};
+ghost use Rattle.std.specs.Iterator.{YieldsFirst, item_count};
+ghost use Rattle.marked.specs.Maps.{bits_of};
 
-// A count of bits, to index with.
-fn wide(count: u32) -> usize
-    ensures { result ≡ count }
-{
-    count as usize
-}
+// The bits that are left of a map, lowest first.
+#[derive(Drop)]
+pub struct Bits(pub u64);
 
-// The lowest bit: trailing zeros give the next number.
-pub fn lowest_bit(map: u64) -> usize
-    ensures { result ≡ lowest_bit map }
-{
-    wide(u64::trailing_zeros(map))
+impl Iterator for Bits {
+    type Item = usize;
+
+    ghost next_gives = { YieldsFirst (λ s. bits_of s.0) };
+
+    ghost remaining = { item_count (λ s. bits_of s.0) };
+
+    // Trailing zeros give the next one.
+    fn next(&mut self) -> Option<usize> {
+        if self.0 == 0 {
+            return None;
+        }
+        let bit = self.0.trailing_zeros() as usize;
+        self.0 &= self.0 - 1;
+        Some(bit)
+    }
 }

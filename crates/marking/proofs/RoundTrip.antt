@@ -2,6 +2,7 @@
 --
 -- From a place on, the bytes of the values are read back, number by number: a number's bit stands exactly if it has a value. The other way round,
 -- whatever is read was written so: each value that is read stands in two bytes, and the map is the one with the bits that were met.
+use Rattle.model.specs.declared.Found.{Found}
 use Prim.Native.Nat.{ℕ, zero, suc, ◌+◌, ◌-◌, ◌/◌, ◌%◌, ◌^◌, ◌≤◌, ◌<◌, zero-le}
 use mathlib.Core.Path.{◌≡◌, sym, ap, ap₂, ◌∙◌}
 use mathlib.Core.Bool.{Bool, true, false}
@@ -13,9 +14,9 @@ use lib.ListN.{length, drop}
 use borrow.Author.Tests.{eqb-true, eqb-false, ltb-true, ltb-false, lt-ltb}
 use Rattle.model.specs.Limits.{byte_values}
 use Rattle.model.specs.Refusals as Refusals
-use Rattle.model.specs.Refusals.{Result, ok}
+use Rattle.model.specs.Refusals.{Result, Ok}
 use Rattle.model.specs.Choice.{when, bit, between, numbers_from}
-use Rattle.model.specs.Bytes.{AreBytes, Found, found, word, word_bytes, judged, optional}
+use Rattle.model.specs.Bytes.{AreBytes, found, word, word_bytes, judged, optional}
 use Rattle.model.specs.Marked.{marked_map, marked_bytes, read_marked}
 use Rattle.model.proofs.Laws.{decided, bind_ok, ok_injective, true_between, between_true}
 use Rattle.model.proofs.Bytes.{judged_ok}
@@ -35,7 +36,7 @@ record ValueTold (bytes : List ℕ) (at : ℕ) (present : Bool) (g : Found ℕ) 
 -- A list that was read is its first member, and then the others.
 record Parts (m : Result (Found ℕ)) (more : ℕ → Result (Found (List ℕ))) (x : ℕ) (l : List ℕ) (next : ℕ) : Type 0 where
   g : Found ℕ
-  first : m ≡ ok g
+  first : m ≡ Ok g
   value : g.value ≡ x
   rest : more g.next ≡ found l next
 
@@ -58,7 +59,7 @@ module _ (most fault : ℕ) (bytes : List ℕ) (at : ℕ) where
   unfolding judged
   value_read_lem n low high e = rw (word_read fault bytes at n e, true_between 1 most n (record { low = low; high = high }))
 
-  value_told : AreBytes bytes → (present : Bool) {g : Found ℕ} → optional present 0 (value_reader most fault) bytes at ≡ ok g →
+  value_told : AreBytes bytes → (present : Bool) {g : Found ℕ} → optional present 0 (value_reader most fault) bytes at ≡ Ok g →
       ValueTold bytes at present g
   value_told bound true {g} h =
       let (read, test) = judged_ok (between 1 most) fault (word fault) bytes at h in

@@ -4,7 +4,7 @@ use mathlib.Core.Path.{◌≡◌}
 use mathlib.Core.List.{List, []}
 use native.Mathlib.Omega.{arith}
 use lib.Dec.{ltb, eqb}
-use lib.ListN.{get_or, set, replicate}
+use lib.ListN.{get_or, set}
 use borrow.Author.Tests.{lt-ltb, le-ltb, ne_eqb, eqb-true, eqb-false}
 use Rattle.model.specs.Limits.{max_ranks}
 use Rattle.model.proofs.Laws.{decided}
@@ -35,10 +35,6 @@ module _ (size : Size) (table : Table) (number row : ℕ) (found : row ≡ row_o
   pub row_inside : row < size.rows → get_or table row [] ≡ row_at size table number
   unfolding row_at
   row_inside h = let h' : row_of size.rows number < size.rows = rw found at h in rw (found, lt-ltb _ _ h')
-
-  pub row_outside : size.rows ≤ row → replicate size.width 0 ≡ row_at size table number
-  unfolding row_at
-  row_outside h = let h' : size.rows ≤ row_of size.rows number = rw found at h in rw (le-ltb _ _ h')
 
   pub number_inside : (index : ℕ) → row < size.rows → index < size.width → get_or (get_or table row []) index 0 ≡ number_at size table number index
   unfolding number_at
@@ -76,14 +72,6 @@ module _ (control : List ℕ) (rank row : ℕ) (found : row ≡ row_of max_ranks
   unfolding control_at
   control_inside h = let h' : row_of max_ranks rank < max_ranks = rw found at h in rw (found, lt-ltb _ _ h')
 
-  pub control_outside : max_ranks ≤ row → 0 ≡ control_at control rank
-  unfolding control_at
-  control_outside h = let h' : max_ranks ≤ row_of max_ranks rank = rw found at h in rw (le-ltb _ _ h')
-
   pub control_stored_inside : (state : ℕ) → row < max_ranks → set control row state ≡ control_stored control rank state
   unfolding control_stored
   control_stored_inside state h = let h' : row_of max_ranks rank < max_ranks = rw found at h in rw (found, lt-ltb _ _ h')
-
-  pub control_stored_outside : (state : ℕ) → max_ranks ≤ row → control ≡ control_stored control rank state
-  unfolding control_stored
-  control_stored_outside state h = let h' : max_ranks ≤ row_of max_ranks rank = rw found at h in rw (le-ltb _ _ h')

@@ -1,6 +1,6 @@
 -- Tables: a row of numbers for each of a count of things that are numbered from 1, as ranks are. A read outside a table gives 0, and a store there
 -- changes nothing.
-use Rattle.std.specs.Prelude.{ℕ, ◌-◌, ◌≤◌, ◌<◌, ◌≡◌, List, [], ltb, eqb, length, get_or, set, replicate}
+use Rattle.std.specs.Prelude.{ℕ, Option, Some, None, ◌-◌, ◌≤◌, ◌<◌, ◌≡◌, List, [], ltb, eqb, length, get_or, set, replicate}
 use Rattle.model.specs.declared.Address.{Address}
 use Rattle.model.specs.Limits.{max_ranks, max_cells, max_registers}
 use Rattle.model.specs.Choice.{when}
@@ -13,13 +13,20 @@ pub record Size : Type 0 where
   pub rows : ℕ
   pub width : ℕ
 
+abbrev pub sized : (rows width : ℕ) → Size
+sized rows width = record { rows = rows; width = width }
+
 abbrev pub cells_size : Size
-cells_size = record { rows = max_ranks; width = max_cells }
+cells_size = sized max_ranks max_cells
 
 abbrev pub registers_size : Size
-registers_size = record { rows = max_ranks; width = max_registers }
+registers_size = sized max_ranks max_registers
 
--- The row that a number from 1 names; 0 names the one past the last.
+-- The row that a number from 1 names; 0 names none.
+abbrev pub row_named : (number : ℕ) → Option ℕ
+row_named number = when (eqb number 0) (λ _. None) (λ _. Some (number - 1))
+
+-- The same for a table of so many rows, where 0 names the one past the last.
 abbrev pub row_of : (rows number : ℕ) → ℕ
 row_of rows number = when (eqb number 0) (λ _. rows) (λ _. number - 1)
 

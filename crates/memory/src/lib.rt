@@ -3,94 +3,94 @@
 #![tactic(auto)]
 
 ghost use Rattle.std.specs.Prelude.{◌≡◌};
-ghost use Rattle.memory.specs.Tables.{
-  row_of,
-  control_at,
-  control_stored,
-  cells_size,
-  registers_size,
-  row_at,
-  number_at,
-  stored,
-};
+ghost use Rattle.memory.specs.Tables.{row_named, control_at, control_stored, sized, cells_size, registers_size, row_at, number_at, stored};
 
-use model::{Address, CELLS, Cells, Control, RANKS, REGISTERS, RankRegisters, Registers};
+use model::{Address, Cells, Control, REGISTERS, RankRegisters, Registers};
 
-// The row of a table that a number from 1 names; 0 names the one past the last.
-pub fn row_of(number: u16, rows: usize) -> usize
-    ensures { result ≡ row_of rows number }
+// The row of a table that a number from 1 names; 0 names none.
+pub fn row_of(number: u16) -> Option<usize>
+    ensures { result ≡ row_named number }
 {
-    if number == 0 {
-        return rows;
+    usize::from(number).checked_sub(1)
+}
+
+// A number of a table, by the number of its row.
+#[tactic(auto, unfolding(crate::specs::Tables::number_at))]
+pub fn number_at<const WIDTH: usize, const ROWS: usize>(
+    table: &[[u16; WIDTH]; ROWS],
+    number: u16,
+    index: usize,
+) -> u16
+    ensures { result ≡ number_at (sized ROWS WIDTH) table.now number index }
+{
+    match row_of(number) {
+        Some(row) if row < ROWS && index < WIDTH => table[row][index],
+        _ => 0,
     }
-    number as usize - 1
+}
+
+#[tactic(auto, unfolding(crate::specs::Tables::stored))]
+pub fn store<const WIDTH: usize, const ROWS: usize>(
+    table: &mut [[u16; WIDTH]; ROWS],
+    number: u16,
+    index: usize,
+    value: u16,
+)
+    ensures { table.new ≡ stored (sized ROWS WIDTH) table.old number index value }
+{
+    match row_of(number) {
+        Some(row) if row < ROWS && index < WIDTH => table[row][index] = value,
+        _ => {}
+    }
 }
 
 // What a cell holds.
 pub fn cell_at(cells: &Cells, place: Address) -> u16
     ensures { result ≡ number_at cells_size cells.now place.rank place.cell }
 {
-    let row = row_of(place.rank, RANKS);
-    let cell = place.cell as usize;
-    if row < RANKS {
-        if cell < CELLS {
-            return cells[row][cell];
-        }
-    }
-    0
+    number_at(cells, place.rank, usize::from(place.cell))
 }
 
 pub fn set_cell(cells: &mut Cells, place: Address, value: u16)
     ensures { cells.new ≡ stored cells_size cells.old place.rank place.cell value }
 {
-    let row = row_of(place.rank, RANKS);
-    let cell = place.cell as usize;
-    if row < RANKS {
-        if cell < CELLS {
-            cells[row][cell] = value;
-        }
-    }
+    store(cells, place.rank, usize::from(place.cell), value);
 }
 
 // A rank's registers, copied.
+#[tactic(auto, unfolding(crate::specs::Tables::row_at))]
 pub fn registers_of(registers: &Registers, rank: u16) -> RankRegisters
     ensures { result ≡ row_at registers_size registers.now rank }
 {
-    let row = row_of(rank, RANKS);
-    if row < RANKS {
-        return registers[row];
+    match row_of(rank) {
+        Some(row) if row < registers.len() => registers[row],
+        _ => [0; REGISTERS],
     }
-    [0; REGISTERS]
 }
 
 pub fn set_register(registers: &mut Registers, rank: u16, index: u16, value: u16)
     ensures { registers.new ≡ stored registers_size registers.old rank index value }
 {
-    let row = row_of(rank, RANKS);
-    let register = index as usize;
-    if row < RANKS {
-        if register < REGISTERS {
-            registers[row][register] = value;
-        }
-    }
+    store(registers, rank, usize::from(index), value);
 }
 
 // A rank's control state.
+#[tactic(auto, unfolding(crate::specs::Tables::control_at))]
 pub fn control_of(control: &Control, rank: u16) -> u16
     ensures { result ≡ control_at control.now rank }
 {
-    let row = row_of(rank, RANKS);
-    if row < RANKS {
-        return control[row];
+    match row_of(rank) {
+        Some(row) if row < control.len() => control[row],
+        _ => 0,
     }
-    0
 }
 
+#[tactic(auto, unfolding(crate::specs::Tables::control_stored))]
 pub fn set_control(control: &mut Control, rank: u16, state: u16)
     ensures { control.new ≡ control_stored control.old rank state }
 {
-    let row = row_of(rank, RANKS);
-    if row < RANKS {
-        control[row] = state;
+    match row_of(rank) {
+        Some(row) if row < control.len() => control[row] = state,
+        _ => {}
     }
 }

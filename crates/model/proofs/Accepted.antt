@@ -3,7 +3,7 @@ use Prim.Native.Nat.{ℕ}
 use mathlib.Core.Path.{◌≡◌, subst}
 use mathlib.Core.List.{List}
 use Rattle.model.specs.declared.Item.{Item}
-use Rattle.model.specs.Refusals.{ok}
+use Rattle.model.specs.Refusals.{Ok}
 use Rattle.model.specs.Programs.{read_program}
 use Rattle.model.specs.StartBytes.{read_start}
 use Rattle.model.specs.Records.{read_record}
@@ -13,12 +13,12 @@ use Rattle.model.proofs.Laws.{bind_ok, ok_injective}
 
 pub record AcceptedParts (program start recorded : List ℕ) (a : Accepted) : Type 0 where
   pub items : List Item
-  pub program_read_lem : read_program program ≡ ok a.program
-  pub start_read_lem : read_start a.program.header start ≡ ok a.readings
-  pub record_read_lem : read_record a.program.header recorded ≡ ok items
-  pub replayed : replay a.program a.readings items ≡ ok a.run
+  pub program_read_lem : read_program program ≡ Ok a.program
+  pub start_read_lem : read_start a.program.header start ≡ Ok a.readings
+  pub record_read_lem : read_record a.program.header recorded ≡ Ok items
+  pub replayed : replay a.program a.readings items ≡ Ok a.run
 
-pub accepted_parts : (program start recorded : List ℕ) (a : Accepted) → accept program start recorded ≡ ok a →
+pub accepted_parts : (program start recorded : List ℕ) (a : Accepted) → accept program start recorded ≡ Ok a →
     AcceptedParts program start recorded a
 unfolding accept_in
 accepted_parts program start recorded a accepted =

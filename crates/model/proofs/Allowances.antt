@@ -1,5 +1,6 @@
 -- How far a reader looks. A reader that is allowed so many bytes looks at no byte behind them and places no fault behind them, and what it leaves of
 -- them is enough for the reader that comes next: an account with a rule for each way in which readers are put together.
+use Rattle.model.specs.declared.Found.{Found}
 use Prim.Native.Nat.{ℕ, zero, suc, ◌+◌, ◌*◌, ◌<◌, ◌≤◌}
 use mathlib.Core.Path.{◌≡◌, refl, sym, ap, subst, ◌∙◌}
 use mathlib.Core.Bool.{Bool, true, false}
@@ -10,9 +11,9 @@ use lib.ListN.{length, take}
 use lib.Seq.{length-take-le, take_all, get_or-take}
 use borrow.Author.Tests.{lt-ltb, ltb-false, ne_eqb, leb-true, leb-false}
 use Rattle.model.specs.Refusals as Refusals
-use Rattle.model.specs.Refusals.{ok, refuse}
+use Rattle.model.specs.Refusals.{Ok, refuse}
 use Rattle.model.specs.Choice.{when}
-use Rattle.model.specs.Bytes.{Found, Reader, ◌>>=◌, pure, here, fault, byte, word, judged, optional, times, whole}
+use Rattle.model.specs.Bytes.{Reader, ◌>>=◌, pure, here, fault, byte, word, judged, optional, times, whole}
 use Rattle.model.proofs.Laws.{refused≢ok, ok_injective, bind_ok, bind_cong, when_false, decided}
 use Rattle.model.proofs.Bytes.{byte_next, word_is, judged_ok}
 use Rattle.model.proofs.Places.{Placed, placed_ok, placed_refuse, placed_bind, placed_later}
@@ -21,7 +22,7 @@ use Rattle.model.proofs.Places.{Placed, placed_ok, placed_refuse, placed_bind, p
 -- least what is spared; and a reader that starts at `from` or behind it places its faults no further than they reach.
 pub record Takes {A : Type 0} (from allowed : ℕ) (spared : A → ℕ) (read : Reader A) : Type 0 where
   pub same : (bytes : List ℕ) (cut at : ℕ) → at + allowed ≤ cut → cut ≤ length bytes → read (take cut bytes) at ≡ read bytes at
-  pub spares : (bytes : List ℕ) (at : ℕ) (f : Found A) → read bytes at ≡ ok f → (at ≤ f.next) × (f.next + spared f.value ≤ at + allowed)
+  pub spares : (bytes : List ℕ) (at : ℕ) (f : Found A) → read bytes at ≡ Ok f → (at ≤ f.next) × (f.next + spared f.value ≤ at + allowed)
   pub placed : (bytes : List ℕ) (at : ℕ) → from ≤ at → Placed (at + allowed) (read bytes at)
 
 -- A larger allowance, or less to spare.
@@ -125,7 +126,7 @@ takes_judged test number {read = read} takes covered =
     record {
       same =
           λ bytes cut at before fits.
-          ap (λ m. Refusals.◌>>=◌ m (λ f. when (test f.value) (λ _. ok f) (λ _. refuse number at))) (takes.same bytes cut at before fits);
+          ap (λ m. Refusals.◌>>=◌ m (λ f. when (test f.value) (λ _. Ok f) (λ _. refuse number at))) (takes.same bytes cut at before fits);
       spares =
           λ bytes at f h.
           let (found, passes) = judged_ok test number read bytes at h in
@@ -162,7 +163,7 @@ takes_times (suc n) each takes =
 -- Of bytes that are to be read whole, one more than is allowed is enough: it is left over already, and a refusal is placed there at the latest.
 module _ {A : Type 0} (left allowed : ℕ) {read : Reader A} (takes : Takes 0 allowed (λ _. 0) read) (bytes : List ℕ) where
   left_over : (f : Found A) → f.next ≤ allowed → (held : List ℕ) → allowed < length held →
-      when (eqb f.next (length held)) (λ _. ok f.value) (λ _. refuse left f.next) ≡ refuse left f.next
+      when (eqb f.next (length held)) (λ _. Ok f.value) (λ _. refuse left f.next) ≡ refuse left f.next
   left_over f before held longer =
       when_false _ _ (ne_eqb f.next (length held) (λ h. omega (arith, h, before, longer)))
 
@@ -174,7 +175,7 @@ module _ {A : Type 0} (left allowed : ℕ) {read : Reader A} (takes : Takes 0 al
       (λ t.
       let start : List ℕ = take (suc allowed) bytes in
       let fits : suc allowed ≤ length bytes = omega (arith, leb-false (length bytes) (suc allowed) t) in
-      ap (λ m. Refusals.◌>>=◌ m (λ f. when (eqb f.next (length start)) (λ _. ok f.value) (λ _. refuse left f.next)))
+      ap (λ m. Refusals.◌>>=◌ m (λ f. when (eqb f.next (length start)) (λ _. Ok f.value) (λ _. refuse left f.next)))
       (takes.same bytes (suc allowed) 0 (omega arith) fits)
       ∙ bind_cong (read bytes 0) _ _ λ f e.
       let before : f.next ≤ allowed = omega (arith, takes.spares bytes 0 f e) in

@@ -1,4 +1,5 @@
 -- Big-endian numbers: the first byte is the high one, what is written is read back, and what is read stands there.
+use Rattle.model.specs.declared.Found.{Found}
 use Prim.Native.Nat.{ℕ, zero, suc, ◌+◌, ◌*◌, ◌/◌, ◌%◌, ◌^◌, ◌<◌}
 use mathlib.Core.Path.{◌≡◌, refl, sym, ap, ap₂, ◌∙◌}
 use mathlib.Core.List.{List, [], ◌∷◌, ◌++◌}
@@ -9,8 +10,8 @@ use lib.ListN.{length, get_or, drop, length-append, length-drop}
 use lib.Seq.{drop-cons}
 use native.Mathlib.Numerals.{add-one}
 use Rattle.model.specs.Limits.{byte_values}
-use Rattle.model.specs.Refusals.{ok}
-use Rattle.model.specs.Bytes.{AreBytes, Found, found, byte, big_endian, big_endian_bytes}
+use Rattle.model.specs.Refusals.{Ok}
+use Rattle.model.specs.Bytes.{AreBytes, found, byte, big_endian, big_endian_bytes}
 use Rattle.model.proofs.Laws.{bind_ok, ok_injective}
 use Rattle.model.proofs.Bytes.{byte_there, byte_next}
 use Rattle.model.proofs.Standing.{byte_stands}
@@ -88,7 +89,7 @@ module _ (early : ℕ) (bytes : List ℕ) where
     pub behind : f.next ≡ at + size
     pub stands : drop at bytes ≡ big_endian_bytes size f.value ++ drop f.next bytes
 
-  pub big_stands : AreBytes bytes → (size high at : ℕ) {f : Found ℕ} → big_endian early size high bytes at ≡ ok f → BigStands size high at f
+  pub big_stands : AreBytes bytes → (size high at : ℕ) {f : Found ℕ} → big_endian early size high bytes at ≡ Ok f → BigStands size high at f
   unfolding big_endian big_endian_bytes
   big_stands bound zero high at h =
       rw (← (ok_injective h)) (record { above = div-one high; behind = sym (add-zero at); stands = refl })

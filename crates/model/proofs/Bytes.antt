@@ -1,5 +1,6 @@
 -- Readers: what a byte, a word, a judged field and so many of one kind say of the bytes if they are found, and a rule for each way in which readers
 -- are put together (`Finds`): what holds of all that they find.
+use Rattle.model.specs.declared.Found.{Found}
 use Prim.Native.Nat.{ℕ, zero, suc, ◌+◌, ◌*◌, ◌<◌}
 use mathlib.Core.Path.{◌≡◌, refl, sym, ap, subst, ◌∙◌}
 use mathlib.Core.Bool.{Bool, true, false, false≢true}
@@ -10,14 +11,14 @@ use lib.ListN.{length, get_or}
 use borrow.Author.Tests.{eqb-true, lt-ltb}
 use Rattle.model.specs.Limits.{byte_values, word_values}
 use Rattle.model.specs.Refusals as Refusals
-use Rattle.model.specs.Refusals.{ok}
+use Rattle.model.specs.Refusals.{Ok}
 use Rattle.model.specs.Choice.{Each, all, one}
-use Rattle.model.specs.Bytes.{AreBytes, Found, found, Reader, ◌>>=◌, pure, byte, word, judged, optional, times, whole}
+use Rattle.model.specs.Bytes.{AreBytes, found, Reader, ◌>>=◌, pure, byte, word, judged, optional, times, whole}
 use Rattle.model.proofs.Laws.{refused≢ok, ok_injective, bind_ok, decided}
 
 -- A byte that was found is there and one byte long.
 module _ (early : ℕ) (bytes : List ℕ) (at : ℕ) where
-  pub byte_ok : {f : Found ℕ} → byte early bytes at ≡ ok f → record { value = get_or bytes at 0; next = at + 1 } ≡ f
+  pub byte_ok : {f : Found ℕ} → byte early bytes at ≡ Ok f → record { value = get_or bytes at 0; next = at + 1 } ≡ f
   unfolding byte
   byte_ok h = decided (ltb at (length bytes)) (λ t. ok_injective (rw t at h)) (λ t. absurd (refused≢ok (rw t at h)))
 
@@ -25,7 +26,7 @@ module _ (early : ℕ) (bytes : List ℕ) (at : ℕ) where
   unfolding byte
   byte_there h = rw (lt-ltb at (length bytes) h)
 
-  pub byte_next : {f : Found ℕ} → byte early bytes at ≡ ok f → f.next ≡ at + 1
+  pub byte_next : {f : Found ℕ} → byte early bytes at ≡ Ok f → f.next ≡ at + 1
   byte_next h = ap (λ (f : Found ℕ). f.next) (sym (byte_ok h))
 
 -- A word is two bytes.
@@ -33,7 +34,7 @@ pub word_is : (early : ℕ) → word early ≡ (byte early >>= (λ high. byte ea
 unfolding word byte
 word_is early = refl
 
-pub word_next : (early : ℕ) (bytes : List ℕ) (at : ℕ) {f : Found ℕ} → word early bytes at ≡ ok f → f.next ≡ at + 1 + 1
+pub word_next : (early : ℕ) (bytes : List ℕ) (at : ℕ) {f : Found ℕ} → word early bytes at ≡ Ok f → f.next ≡ at + 1 + 1
 word_next early bytes at h =
     let (a, ea, h₁) = bind_ok (byte early bytes at) _ (rw word_is at h) in
     let (b, eb, h₂) = bind_ok (byte early bytes a.next) _ h₁ in
@@ -41,7 +42,7 @@ word_next early bytes at h =
 
 module _ (test : ℕ → Bool) (number : ℕ) (read : Reader ℕ) (bytes : List ℕ) (at : ℕ) where
   -- A judged field that was found is the field, and it passed.
-  pub judged_ok : {f : Found ℕ} → judged test number read bytes at ≡ ok f → (read bytes at ≡ ok f) × (test f.value ≡ true)
+  pub judged_ok : {f : Found ℕ} → judged test number read bytes at ≡ Ok f → (read bytes at ≡ Ok f) × (test f.value ≡ true)
   unfolding judged
   judged_ok {f} h =
       let (g, e, h₁) = bind_ok (read bytes at) _ h in
@@ -63,18 +64,18 @@ unfolding times
 times_more n read bytes at = refl
 
 -- The whole bytes are what was read to their end.
-pub whole_ok : {A : Type 0} (left : ℕ) (read : Reader A) (bytes : List ℕ) {a : A} → whole left read bytes ≡ ok a →
+pub whole_ok : {A : Type 0} (left : ℕ) (read : Reader A) (bytes : List ℕ) {a : A} → whole left read bytes ≡ Ok a →
     read bytes 0 ≡ found a (length bytes)
 unfolding whole
 whole_ok left read bytes h =
     let (f, e, h₁) = bind_ok (read bytes 0) _ h in
     decided (eqb f.next (length bytes))
-    (λ t. e ∙ ap ok (λ i. record { value = ok_injective (rw t at h₁) i; next = eqb-true f.next (length bytes) t i }))
+    (λ t. e ∙ ap Ok (λ i. record { value = ok_injective (rw t at h₁) i; next = eqb-true f.next (length bytes) t i }))
     (λ t. absurd (refused≢ok (rw t at h₁)))
 
 -- Whatever the reader finds in these bytes, from any place on, holds.
 pub record Finds (bytes : List ℕ) {A : Type 0} (read : Reader A) (Holds : A → Type 0) : Type 0 where
-  pub holds : (at : ℕ) (f : Found A) → read bytes at ≡ ok f → Holds f.value
+  pub holds : (at : ℕ) (f : Found A) → read bytes at ≡ Ok f → Holds f.value
 
 pub finds_anything : {bytes : List ℕ} {A : Type 0} (read : Reader A) → Finds bytes read (λ a. Unit {0})
 finds_anything read = record { holds = λ at f h. tt }
@@ -133,5 +134,5 @@ finds_word {bytes} early =
     finds_pure (high * byte_values + low) (λ bound. omega (arith, below bound, less bound)))
 
 pub whole_finds : {A : Type 0} (left : ℕ) (read : Reader A) (bytes : List ℕ) (Holds : A → Type 0) {a : A} → Finds bytes read Holds →
-    whole left read bytes ≡ ok a → Holds a
+    whole left read bytes ≡ Ok a → Holds a
 whole_finds left read bytes Holds finds h = finds.holds 0 _ (whole_ok left read bytes h)

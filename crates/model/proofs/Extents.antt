@@ -2,10 +2,10 @@
 --
 -- An expression of n tokens has at most 2 * n + 1 bytes: a token costs two, whatever it is, since a constant's three bytes close an operand that an
 -- operator's one byte has opened.
+use Rattle.std.specs.Prelude.{Option, Some, None}
 use Prim.Native.Nat.{ℕ, zero, suc, ◌+◌, ◌*◌, ◌≤◌}
 use mathlib.Core.Path.{◌≡◌, refl}
 use mathlib.Core.Bool.{true}
-use mathlib.Core.Option.{Option, some, none}
 use native.Mathlib.Omega.{arith}
 use lib.Dec.{ltb, leb, eqb}
 use borrow.Author.Tests.{eqb-true, leb-true}
@@ -39,17 +39,17 @@ module _ (registers : ℕ) where
   token_takes : {operand : ℕ → Reader Counted} (left at : ℕ) → ((left : ℕ) → Takes at (2 * left + 1) (λ c. 2 * c.left) (operand left)) →
       (token : Option Token) → Takes at (2 * left + 2) (λ c. 2 * c.left) (on_token registers operand left at token)
   unfolding on_token after_token
-  token_takes left at operands (some constant_token) =
+  token_takes left at operands (Some constant_token) =
       takes_bind (takes_word program_length (2 * left) (omega arith)) λ value. takes_pure _ (omega arith)
-  token_takes left at operands (some register_token) =
+  token_takes left at operands (Some register_token) =
       takes_bind (below_takes registers (2 * left) (omega arith)) λ index. takes_pure _ (omega arith)
-  token_takes left at operands (some own_rank_token) = takes_pure _ (omega arith)
-  token_takes left at operands (some rank_count_token) = takes_pure _ (omega arith)
-  token_takes left at operands (some (operator_token o)) =
+  token_takes left at operands (Some own_rank_token) = takes_pure _ (omega arith)
+  token_takes left at operands (Some rank_count_token) = takes_pure _ (omega arith)
+  token_takes left at operands (Some (operator_token o)) =
       takes_bind (takes_less (takes_over 1 (operands left)) (omega arith) (λ a. omega arith)) λ a.
       takes_bind (operands a.left) λ b.
       takes_pure _ (omega arith)
-  token_takes left at operands none = takes_fault program_form at (omega arith)
+  token_takes left at operands None = takes_fault program_form at (omega arith)
 
   tokens_take : (depth left : ℕ) {from : ℕ} → Takes from (2 * left + 1) (λ c. 2 * c.left) (read_expression registers depth left)
   unfolding read_expression
@@ -81,7 +81,7 @@ module _ (at map : ℕ) where
   abbrev FormTakes : Option CommandForm → Type 0
   FormTakes form = Takes at 126 (λ _. fields_cost map + 2) (judged_form at map form)
 
-  form_takes : (form : CommandForm) → leb (fields_cost form.map) 124 ≡ true → FormTakes (some form)
+  form_takes : (form : CommandForm) → leb (fields_cost form.map) 124 ≡ true → FormTakes (Some form)
   unfolding judged_form
   form_takes form within =
       decided (eqb map form.map)

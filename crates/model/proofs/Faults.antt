@@ -1,28 +1,28 @@
 -- By which numbers results and readers refuse: a rule for each way in which they are put together. What is refused by the whole is refused by a part.
+use Rattle.std.specs.Prelude.{Option, Some, None}
 use Prim.Native.Nat.{ℕ, zero, suc}
 use mathlib.Core.Path.{◌≡◌, refl, sym}
 use mathlib.Core.Bool.{Bool, true, false}
 use mathlib.Core.List.{List, [], ◌∷◌}
-use mathlib.Core.Option.{Option, some, none}
 use lib.Dec.{ltb, eqb}
 use lib.ListN.{length}
 use Rattle.model.specs.declared.Refusal.{Refusal}
 use Rattle.model.specs.Refusals as Refusals
-use Rattle.model.specs.Refusals.{Result, ok, refused, refuse, require, present}
+use Rattle.model.specs.Refusals.{Result, Ok, Err, refuse, require, present}
 use Rattle.model.specs.Bytes.{Reader, ◌>>=◌, pure, here, fault, byte, word, judged, optional, times, whole}
 use Rattle.model.proofs.Laws.{decided, refused≢ok}
 use Rattle.model.proofs.Bytes.{word_is}
 
 -- What this result refuses, it refuses by a number of these rows.
 pub record Tabled (Row : ℕ → Type 0) {A : Type 0} (m : Result A) : Type 0 where
-  pub row : (r : Refusal) → m ≡ refused r → Row r.number
+  pub row : (r : Refusal) → m ≡ Err r → Row r.number
 
 -- What this reader refuses, whatever the bytes are and wherever it starts.
 pub record Faults (Row : ℕ → Type 0) {A : Type 0} (read : Reader A) : Type 0 where
   pub tabled : (bytes : List ℕ) (at : ℕ) → Tabled Row (read bytes at)
 
 module _ {Row : ℕ → Type 0} where
-  pub ok_tabled : {A : Type 0} (a : A) → Tabled Row (ok a)
+  pub ok_tabled : {A : Type 0} (a : A) → Tabled Row (Ok a)
   ok_tabled a = record { row = λ r h. absurd (refused≢ok (sym h)) }
 
   pub refuse_tabled : {A : Type 0} (number place : ℕ) → Row number → Tabled Row {A = A} (refuse number place)
@@ -30,16 +30,16 @@ module _ {Row : ℕ → Type 0} where
 
   pub bind_tabled : {A B : Type 0} {m : Result A} {f : A → Result B} → Tabled Row m → ((a : A) → Tabled Row (f a)) →
       Tabled Row (Refusals.◌>>=◌ m f)
-  bind_tabled {m = ok a} first then = then a
-  bind_tabled {m = refused r} first then = record { row = λ s h. let same : r ≡ s = cc in rw same at (first.row r refl) }
+  bind_tabled {m = Ok a} first then = then a
+  bind_tabled {m = Err r} first then = record { row = λ s h. let same : r ≡ s = cc in rw same at (first.row r refl) }
 
   pub require_tabled : (t : Bool) (number place : ℕ) → Row number → Tabled Row (require t number place)
   require_tabled true number place row = ok_tabled tt
   require_tabled false number place row = refuse_tabled number place row
 
   pub present_tabled : {A : Type 0} (o : Option A) (number place : ℕ) → Row number → Tabled Row (present o number place)
-  present_tabled (some a) number place row = ok_tabled a
-  present_tabled none number place row = refuse_tabled number place row
+  present_tabled (Some a) number place row = ok_tabled a
+  present_tabled None number place row = refuse_tabled number place row
 
   pub pure_faults : {A : Type 0} (a : A) → Faults Row (pure a)
   pure_faults a = record { tabled = λ bytes at. ok_tabled _ }

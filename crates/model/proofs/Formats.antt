@@ -4,11 +4,12 @@
 --
 -- A reader that goes by the narrower format is kept by the one that goes by the wider: whatever the first finds, the second finds there. There is a
 -- rule for each way in which readers are put together.
+use Rattle.model.specs.declared.Found.{Found}
+use Rattle.std.specs.Prelude.{Option, Some, None}
 use Prim.Native.Nat.{ℕ, zero, suc, ◌+◌, ◌/◌, ◌≤◌}
 use mathlib.Core.Path.{◌≡◌, ◌∙◌}
 use mathlib.Core.Bool.{Bool, true, false}
 use mathlib.Core.List.{List}
-use mathlib.Core.Option.{Option, some, none}
 use native.Mathlib.Omega.{arith}
 use lib.Dec.{leb, eqb}
 use lib.ListN.{length}
@@ -18,9 +19,9 @@ use Rattle.model.specs.declared.Item.{Item}
 use Rattle.model.specs.declared.Kind.{Kind}
 use Rattle.model.specs.declared.Refusal.{Refusal}
 use Rattle.model.specs.Limits.{max_cells, max_registers, max_queues, max_states, short_transitions, long_count, max_items}
-use Rattle.model.specs.Refusals.{ok, refused, program_length, program_range, record_length, record_range}
+use Rattle.model.specs.Refusals.{Ok, Err, program_length, program_range, record_length, record_range}
 use Rattle.model.specs.Choice.{between, lookup, member}
-use Rattle.model.specs.Bytes.{Found, Reader, ◌>>=◌, here, byte, word, judged, optional, times, whole}
+use Rattle.model.specs.Bytes.{Reader, ◌>>=◌, here, byte, word, judged, optional, times, whole}
 use Rattle.model.specs.ItemKinds.{item_kinds}
 use Rattle.model.specs.Formats.{Format, document01, today, original}
 use Rattle.model.specs.Programs.{Program, header_number, count_byte, transition_count, read_header_in, program_reader_in, read_program_in}
@@ -50,12 +51,12 @@ today_extends =
 pub record Readable (format : Format) (program_bytes recorded : List ℕ) : Type 0 where
   pub program : Program
   pub items : List Item
-  pub program_read_lem : read_program_in format program_bytes ≡ ok program
-  pub record_read_lem : read_record_in format program.header recorded ≡ ok items
+  pub program_read_lem : read_program_in format program_bytes ≡ Ok program
+  pub record_read_lem : read_record_in format program.header recorded ≡ Ok items
 
 -- What the first reader finds, the second finds there.
 record Keeps {A : Type 0} (first second : Reader A) : Type 0 where
-  kept : (bytes : List ℕ) (at : ℕ) (f : Found A) → first bytes at ≡ ok f → second bytes at ≡ ok f
+  kept : (bytes : List ℕ) (at : ℕ) (f : Found A) → first bytes at ≡ Ok f → second bytes at ≡ Ok f
 
 keeps_same : {A : Type 0} (read : Reader A) → Keeps read read
 keeps_same read = record { kept = λ bytes at f h. h }
@@ -91,8 +92,8 @@ unfolding times
 keeps_times zero keeps = keeps_same _
 keeps_times (suc n) keeps = keeps_bind keeps λ a. keeps_bind (keeps_times n keeps) λ rest. keeps_same _
 
-keeps_whole : {A : Type 0} (left : ℕ) {first second : Reader A} → Keeps first second → (bytes : List ℕ) {a : A} → whole left first bytes ≡ ok a →
-    whole left second bytes ≡ ok a
+keeps_whole : {A : Type 0} (left : ℕ) {first second : Reader A} → Keeps first second → (bytes : List ℕ) {a : A} → whole left first bytes ≡ Ok a →
+    whole left second bytes ≡ Ok a
 unfolding whole
 keeps_whole left {first} keeps bytes h = rw (keeps.kept bytes 0 _ (whole_ok left first bytes h), eqb_refl (length bytes))
 
@@ -129,7 +130,7 @@ module _ {old new : Format} (wider : Extends old new) where
       keeps_bind count_kept λ transitions.
       keeps_same _
 
-  pub program_kept : (bytes : List ℕ) {P : Program} → read_program_in old bytes ≡ ok P → read_program_in new bytes ≡ ok P
+  pub program_kept : (bytes : List ℕ) {P : Program} → read_program_in old bytes ≡ Ok P → read_program_in new bytes ≡ Ok P
   unfolding read_program_in program_reader_in
   program_kept =
       keeps_whole program_length (keeps_bind header_kept λ header. keeps_same _)
@@ -137,8 +138,8 @@ module _ {old new : Format} (wider : Extends old new) where
   -- The record.
   form_kept : (at map : ℕ) (kind : Option Kind) → Keeps (judged_item_form at (form_of old.maps map kind)) (judged_item_form at (form_of new.maps map kind))
   unfolding form_of judged_item_form
-  form_kept at map none = keeps_same _
-  form_kept at map (some kind) =
+  form_kept at map None = keeps_same _
+  form_kept at map (Some kind) =
       decided (member map (old.maps kind))
       (λ t. rw (t, wider.maps kind map t) (keeps_same _))
       (λ t. rw t (record { kept = λ bytes next f h. absurd (refused≢ok h) }))
@@ -152,8 +153,8 @@ module _ {old new : Format} (wider : Extends old new) where
       keeps_bind (form_kept at map (lookup number item_kinds)) λ kind.
       keeps_same _
 
-  pub record_kept : (header : Header) (bytes : List ℕ) {items : List Item} → read_record_in old header bytes ≡ ok items →
-      read_record_in new header bytes ≡ ok items
+  pub record_kept : (header : Header) (bytes : List ℕ) {items : List Item} → read_record_in old header bytes ≡ Ok items →
+      read_record_in new header bytes ≡ Ok items
   unfolding read_record_in record_reader_in
   record_kept header =
       keeps_whole record_length
@@ -192,13 +193,13 @@ module _ {old new : Format} (wider : Extends old new) where
     listing_kept memory = rw accept_kept
 
     -- A record that the replay refuses (7 to 13, and 18) is refused by this number at this place, as it was.
-    pub refused_kept : {readings : Start} {r : Refusal} → read_start readable.program.header start ≡ ok readings →
-        replay readable.program readings readable.items ≡ refused r → accept_in new program start recorded ≡ refused r
+    pub refused_kept : {readings : Start} {r : Refusal} → read_start readable.program.header start ≡ Ok readings →
+        replay readable.program readings readable.items ≡ Err r → accept_in new program start recorded ≡ Err r
     unfolding accept_in
     refused_kept begun refuses = accept_kept ∙ rw (readable.program_read_lem, begun, readable.record_read_lem, refuses)
 
 -- An accepted record is a readable one.
-pub accepted_readable : (format : Format) (program start recorded : List ℕ) {a : Accepted} → accept_in format program start recorded ≡ ok a →
+pub accepted_readable : (format : Format) (program start recorded : List ℕ) {a : Accepted} → accept_in format program start recorded ≡ Ok a →
     Readable format program recorded
 unfolding accept_in
 accepted_readable format program start recorded accepted =

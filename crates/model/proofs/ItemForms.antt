@@ -1,21 +1,21 @@
 -- The verdict on a map and a kind's number is the papers', for every pair of numbers, and so for each of the 65,536 pairs of bytes
 -- (`forms_agree`), in document 01's format and in today's: the verdict that is computed is the papers', and the papers have no other. A kind is found
 -- under its number and no other is; and a format lists for a kind exactly the maps that the papers' relation gives it.
+use Rattle.std.specs.Prelude.{Option, Some, None}
+use Rattle.model.proofs.Options.{none-ne-some}
 use Prim.Native.Nat.{ℕ, ◌+◌}
 use mathlib.Core.Path.{◌≡◌, refl, sym, ap, subst, ◌∙◌}
 use mathlib.Core.Bool.{Bool, true, false, true≢false, not, ◌||◌}
 use mathlib.Core.List.{List}
 use mathlib.Core.Logic.{◌↔◌}
-use mathlib.Core.Option.{Option, some, none, none-ne-some}
 use lib.Dec.{eqb}
 use borrow.Author.Tests.{eqb-true}
 use Rattle.model.specs.declared.Kind.{Kind}
 use Rattle.model.specs.declared.Kind.TheVariants.{Load, Store, Assign, Assume, Read, Write, Popa, Popb, Bar}
-use Rattle.model.specs.declared.ItemForm.{ItemForm}
 use Rattle.model.specs.Choice.{bit, lookup, member, Each, all, one}
 use Rattle.model.specs.ItemKinds.{kind_number, item_kinds, is_command_kind}
 use Rattle.model.specs.Formats.{OriginalMap, HasMap, original, with_high, with_remote, original_maps, item_maps, Format, document01, today}
-use Rattle.model.specs.ItemForms.{FormIs, good, unknown_kind, wrong_map, form_of, item_form_in, item_form, judged_item_form}
+use Rattle.model.specs.ItemForms.{FormIs, good, unknown_kind, wrong_map, form_of, item_form_in, item_form, judged_item_form, ItemForm}
 use Rattle.model.specs.Replay.{every}
 use Rattle.model.proofs.Laws.{decided, refused≢ok}
 use Rattle.model.proofs.ItemKinds.{kind_found}
@@ -23,7 +23,7 @@ use Rattle.model.proofs.Bytes.{Finds, finds_pure}
 use Rattle.model.proofs.Tables.{every_row, looked_up, one_of, every_one}
 
 -- What is found under a number has that number.
-found_number : (number : ℕ) {kind : Kind} → lookup number item_kinds ≡ some kind → kind_number kind ≡ number
+found_number : (number : ℕ) {kind : Kind} → lookup number item_kinds ≡ Some kind → kind_number kind ≡ number
 unfolding item_kinds every_row
 found_number number {kind} h =
     eqb-true (kind_number kind) number (looked_up (λ n k. eqb (kind_number k) n) number item_kinds refl h)
@@ -127,9 +127,9 @@ each_map test passes has = each_map_in today_maps test passes has
 module _ {format : Format} {Has : Kind → ℕ → Type 0} (lists : Lists format Has) where
   by_kind : (map number : ℕ) (found : Option Kind) → lookup number item_kinds ≡ found → FormIs Has map number (form_of format.maps map found)
   unfolding form_of
-  by_kind map number none e =
+  by_kind map number None e =
       unknown_kind (λ kind same. none-ne-some kind (sym e ∙ ap (λ n. lookup n item_kinds) (sym same) ∙ kind_found kind))
-  by_kind map number (some kind) e =
+  by_kind map number (Some kind) e =
       decided (member map (format.maps kind))
       (λ t. rw t (good kind (found_number number e) (lists.only kind map t)))
       (λ t. rw t (wrong_map kind (found_number number e) (λ has. true≢false (sym (lists.listed has) ∙ t))))
@@ -140,9 +140,9 @@ module _ {format : Format} {Has : Kind → ℕ → Type 0} (lists : Lists format
 
   -- .. and the papers have no other verdict.
   none_found : (number : ℕ) (found : Option Kind) → lookup number item_kinds ≡ found → ((kind : Kind) → ¬ (kind_number kind ≡ number)) →
-      found ≡ none
-  none_found number none e no_kind = refl
-  none_found number (some kind) e no_kind = absurd (no_kind kind (found_number number e))
+      found ≡ None
+  none_found number None e no_kind = refl
+  none_found number (Some kind) e no_kind = absurd (no_kind kind (found_number number e))
 
   unlisted : (map : ℕ) (kind : Kind) → ¬ (Has kind map) → member map (format.maps kind) ≡ false
   unlisted map kind has_not =

@@ -1,7 +1,8 @@
 -- Kinds of items: no two share a number, a command's kind is no pop's, and only the command bar is a bar.
+use Rattle.std.specs.Prelude.{Some}
+use Rattle.model.proofs.Options.{some-injective}
 use mathlib.Core.Path.{◌≡◌, refl, sym, ap, subst, ◌∙◌}
 use mathlib.Core.Bool.{true, false, true≢false, false≢true}
-use mathlib.Core.Option.{some, some-injective}
 use borrow.Author.Tests.{eqb-true, eq-eqb}
 use Rattle.model.specs.declared.Kind.{Kind}
 use Rattle.model.specs.declared.Kind.TheVariants.{Load, Store, Assign, Assume, Read, Write, Popa, Popb, Bar}
@@ -11,7 +12,7 @@ use Rattle.model.specs.Programs.{Command, load, store, assign, assume, read, wri
 use Rattle.model.proofs.Laws.{decided, or-true, when_true, when_false}
 
 -- A kind stands under its own number.
-pub kind_found : (k : Kind) → lookup (kind_number k) item_kinds ≡ some k
+pub kind_found : (k : Kind) → lookup (kind_number k) item_kinds ≡ Some k
 unfolding lookup item_kinds
 kind_found Load = refl
 kind_found Store = refl

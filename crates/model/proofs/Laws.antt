@@ -1,63 +1,65 @@
 -- Laws about the definitions' building stones: results, tests, and functions with one value changed. A proof about a definition cites these instead
 -- of unfolding the same stones again.
+use Rattle.std.specs.Prelude.{Option, Some, None, slice_get}
+use Rattle.model.proofs.Options.{none-ne-some, some-injective}
 use Prim.Native.Nat.{ℕ, zero, suc, ◌+◌, ◌<◌, ◌≤◌}
 use mathlib.Core.Path.{◌≡◌, refl, sym, subst, ◌∙◌, ap, fun_ext}
 use mathlib.Core.Bool.{Bool, true, false, ◌&&◌, ◌||◌, false≢true}
 use mathlib.Core.List.{List, [], ◌∷◌, ◌++◌, map}
-use mathlib.Core.Option.{Option, some, none, none-ne-some, some-injective}
 use native.Mathlib.Nat.{zero-lt-suc, not-suc-le-zero, le_of_suc-le-suc}
 use native.Mathlib.Omega.{arith}
 use lib.Dec.{eqb, leb}
-use lib.ListN.{length, take, get_elem?}
+use lib.ListN.{length, take}
 use borrow.Author.Tests.{eq-eqb, ne_eqb, eqb-true, leb-true, le-leb}
-use Rattle.model.specs.Refusals.{Result, ok, refused, refuse, require, present, ◌>>=◌}
+use Rattle.model.specs.declared.Refusal.{Refusal}
+use Rattle.model.specs.Refusals.{Result, Ok, Err, refuse, require, present, ◌>>=◌}
 use Rattle.model.specs.Choice.{when, between, Each, all, one}
 use Rattle.model.specs.Machine.{put, put₂}
 
 -- A value is no refusal, and tells what it is a value of.
 IsOk : {A : Type 0} → Result A → Type 0
-IsOk (ok a) = Unit {0}
-IsOk (refused r) = ⊥
+IsOk (Ok a) = Unit {0}
+IsOk (Err r) = ⊥
 
-pub refused≢ok : {A : Type 0} {r : _} {a : A} → ¬ (refused r ≡ ok a)
+pub refused≢ok : {A : Type 0} {r : Refusal} {a : A} → ¬ (◌≡◌ {A = Result A} (Err r) (Ok a))
 unfolding IsOk
 refused≢ok h = subst IsOk (sym h) tt
 
-pub ok_injective : {A : Type 0} {a b : A} → ok a ≡ ok b → a ≡ b
+pub ok_injective : {A : Type 0} {a b : A} → ◌≡◌ {A = Result A} (Ok a) (Ok b) → a ≡ b
 ok_injective h = cc
 
 -- Two refusals that are one have one place.
 place_of : {A : Type 0} → Result A → ℕ
-place_of (ok a) = 0
-place_of (refused r) = r.place
+place_of (Ok a) = 0
+place_of (Err r) = r.place
 
 pub same_place : {A : Type 0} {number other place place' : ℕ} → refuse {A = A} number place ≡ refuse other place' → place ≡ place'
 unfolding place_of
 same_place h = ap place_of h
 
 -- A result that is a value came from values all the way.
-pub bind_ok : {A B : Type 0} (m : Result A) (f : A → Result B) {b : B} → (m >>= f) ≡ ok b → (a : A) × (m ≡ ok a) × (f a ≡ ok b)
-bind_ok (ok a) f h = (a, refl, h)
-bind_ok (refused r) f h = absurd (refused≢ok h)
+pub bind_ok : {A B : Type 0} (m : Result A) (f : A → Result B) {b : B} → (m >>= f) ≡ Ok b → (a : A) × (m ≡ Ok a) × (f a ≡ Ok b)
+bind_ok (Ok a) f h = (a, refl, h)
+bind_ok (Err r) f h = absurd (refused≢ok h)
 
 pub required : {B : Type 0} (t : Bool) (number place : ℕ) (f : Unit {0} → Result B) {b : B} →
-    (require t number place >>= f) ≡ ok b → (t ≡ true) × (f tt ≡ ok b)
+    (require t number place >>= f) ≡ Ok b → (t ≡ true) × (f tt ≡ Ok b)
 required true number place f h = (refl, h)
 required false number place f h = absurd (refused≢ok h)
 
 pub presented : {A B : Type 0} (o : Option A) (number place : ℕ) (f : A → Result B) {b : B} →
-    (present o number place >>= f) ≡ ok b → (a : A) × (o ≡ some a) × (f a ≡ ok b)
-presented (some a) number place f h = (a, refl, h)
-presented none number place f h = absurd (refused≢ok h)
+    (present o number place >>= f) ≡ Ok b → (a : A) × (o ≡ Some a) × (f a ≡ Ok b)
+presented (Some a) number place f h = (a, refl, h)
+presented None number place f h = absurd (refused≢ok h)
 
 -- What follows matters only at the value that was found, and it may be put together first or last.
-pub bind_cong : {A B : Type 0} (m : Result A) (f g : A → Result B) → ((a : A) → m ≡ ok a → f a ≡ g a) → (m >>= f) ≡ (m >>= g)
-bind_cong (ok a) f g h = h a refl
-bind_cong (refused r) f g h = refl
+pub bind_cong : {A B : Type 0} (m : Result A) (f g : A → Result B) → ((a : A) → m ≡ Ok a → f a ≡ g a) → (m >>= f) ≡ (m >>= g)
+bind_cong (Ok a) f g h = h a refl
+bind_cong (Err r) f g h = refl
 
 pub bind_assoc : {A B C : Type 0} (m : Result A) (f : A → Result B) (g : B → Result C) → ((m >>= f) >>= g) ≡ (m >>= (λ a. f a >>= g))
-bind_assoc (ok a) f g = refl
-bind_assoc (refused r) f g = refl
+bind_assoc (Ok a) f g = refl
+bind_assoc (Err r) f g = refl
 
 -- An answer that keeps all that was found tells it again: what the answer is known to be says what the reader found.
 pub told : {A B : Type 0} (answer : Result A → B) (result : B → Result A) → ((m : Result A) → result (answer m) ≡ m) →
@@ -160,39 +162,39 @@ each_append all behind = behind
 each_append (one h rest) behind = one h (each_append rest behind)
 
 -- The numbered members of a list.
-pub get_elem?_bound : {A : Type 0} (l : List A) (i : ℕ) {a : A} → get_elem? l i ≡ some a → i < length l
-get_elem?_bound [] i h = absurd (none-ne-some _ h)
-get_elem?_bound (x ∷ l) zero h = zero-lt-suc _
-get_elem?_bound (x ∷ l) (suc i) h = omega (arith, get_elem?_bound l i h)
+pub slice_get_bound : {A : Type 0} (l : List A) (i : ℕ) {a : A} → slice_get l i ≡ Some a → i < length l
+slice_get_bound [] i h = absurd (none-ne-some _ h)
+slice_get_bound (x ∷ l) zero h = zero-lt-suc _
+slice_get_bound (x ∷ l) (suc i) h = omega (arith, slice_get_bound l i h)
 
-pub get_elem?_below : {A : Type 0} (l : List A) (i : ℕ) → i < length l → (a : A) × (get_elem? l i ≡ some a)
-get_elem?_below [] i h = absurd (not-suc-le-zero h)
-get_elem?_below (x ∷ l) zero h = (x, refl)
-get_elem?_below (x ∷ l) (suc i) h = get_elem?_below l i (le_of_suc-le-suc h)
+pub slice_get_below : {A : Type 0} (l : List A) (i : ℕ) → i < length l → (a : A) × (slice_get l i ≡ Some a)
+slice_get_below [] i h = absurd (not-suc-le-zero h)
+slice_get_below (x ∷ l) zero h = (x, refl)
+slice_get_below (x ∷ l) (suc i) h = slice_get_below l i (le_of_suc-le-suc h)
 
 -- Those of a list's front, and of its images.
-pub get_elem?_take : {A : Type 0} (l : List A) (i j : ℕ) {a : A} → j < i → get_elem? l j ≡ some a → get_elem? (take i l) j ≡ some a
-get_elem?_take [] i j less h = absurd (none-ne-some _ h)
-get_elem?_take (x ∷ l) zero j less h = absurd (not-suc-le-zero less)
-get_elem?_take (x ∷ l) (suc i) zero less h = h
-get_elem?_take (x ∷ l) (suc i) (suc j) less h = get_elem?_take l i j (le_of_suc-le-suc less) h
+pub slice_get_take : {A : Type 0} (l : List A) (i j : ℕ) {a : A} → j < i → slice_get l j ≡ Some a → slice_get (take i l) j ≡ Some a
+slice_get_take [] i j less h = absurd (none-ne-some _ h)
+slice_get_take (x ∷ l) zero j less h = absurd (not-suc-le-zero less)
+slice_get_take (x ∷ l) (suc i) zero less h = h
+slice_get_take (x ∷ l) (suc i) (suc j) less h = slice_get_take l i j (le_of_suc-le-suc less) h
 
-pub get_elem?_taken : {A : Type 0} (l : List A) (i j : ℕ) {a : A} → get_elem? (take i l) j ≡ some a → (get_elem? l j ≡ some a) × (j < i)
-get_elem?_taken l zero j h = absurd (none-ne-some _ h)
-get_elem?_taken [] (suc i) j h = absurd (none-ne-some _ h)
-get_elem?_taken (x ∷ l) (suc i) zero h = (h, zero-lt-suc i)
-get_elem?_taken (x ∷ l) (suc i) (suc j) h = let (there, less) = get_elem?_taken l i j h in (there, omega arith)
+pub slice_get_taken : {A : Type 0} (l : List A) (i j : ℕ) {a : A} → slice_get (take i l) j ≡ Some a → (slice_get l j ≡ Some a) × (j < i)
+slice_get_taken l zero j h = absurd (none-ne-some _ h)
+slice_get_taken [] (suc i) j h = absurd (none-ne-some _ h)
+slice_get_taken (x ∷ l) (suc i) zero h = (h, zero-lt-suc i)
+slice_get_taken (x ∷ l) (suc i) (suc j) h = let (there, less) = slice_get_taken l i j h in (there, omega arith)
 
-pub get_elem?_map : {A B : Type 0} (f : A → B) (l : List A) (i : ℕ) {a : A} → get_elem? l i ≡ some a → get_elem? (map f l) i ≡ some (f a)
-get_elem?_map f [] i h = absurd (none-ne-some _ h)
-get_elem?_map f (x ∷ l) zero {a} h = ap (λ y. some (f y)) (some-injective x a h)
-get_elem?_map f (x ∷ l) (suc i) h = get_elem?_map f l i h
+pub slice_get_map : {A B : Type 0} (f : A → B) (l : List A) (i : ℕ) {a : A} → slice_get l i ≡ Some a → slice_get (map f l) i ≡ Some (f a)
+slice_get_map f [] i h = absurd (none-ne-some _ h)
+slice_get_map f (x ∷ l) zero {a} h = ap (λ y. Some (f y)) (some-injective x a h)
+slice_get_map f (x ∷ l) (suc i) h = slice_get_map f l i h
 
-pub get_elem?_mapped : {A B : Type 0} (f : A → B) (l : List A) (i : ℕ) {b : B} → get_elem? (map f l) i ≡ some b →
-    (a : A) × (get_elem? l i ≡ some a) × (f a ≡ b)
-get_elem?_mapped f [] i h = absurd (none-ne-some _ h)
-get_elem?_mapped f (x ∷ l) zero {b} h = (x, refl, some-injective (f x) b h)
-get_elem?_mapped f (x ∷ l) (suc i) h = get_elem?_mapped f l i h
+pub slice_get_mapped : {A B : Type 0} (f : A → B) (l : List A) (i : ℕ) {b : B} → slice_get (map f l) i ≡ Some b →
+    (a : A) × (slice_get l i ≡ Some a) × (f a ≡ b)
+slice_get_mapped f [] i h = absurd (none-ne-some _ h)
+slice_get_mapped f (x ∷ l) zero {b} h = (x, refl, some-injective (f x) b h)
+slice_get_mapped f (x ∷ l) (suc i) h = slice_get_mapped f l i h
 
 pub take_map : {A B : Type 0} (f : A → B) (n : ℕ) (l : List A) → take n (map f l) ≡ map f (take n l)
 take_map f zero l = refl
@@ -200,17 +202,17 @@ take_map f (suc n) [] = refl
 take_map {B = B} f (suc n) (x ∷ l) = ap {B = List B} (λ r. f x ∷ r) (take_map f n l)
 
 -- What holds of each member holds of a numbered one.
-pub each_at : {A : Type 0} {Holds : A → Type 0} (l : List A) → Each Holds l → (i : ℕ) {x : A} → get_elem? l i ≡ some x → Holds x
+pub each_at : {A : Type 0} {Holds : A → Type 0} (l : List A) → Each Holds l → (i : ℕ) {x : A} → slice_get l i ≡ Some x → Holds x
 each_at l all i h = absurd (none-ne-some _ h)
 each_at {Holds = Holds} l (one {a} holds rest) zero {x} h = subst Holds (some-injective a x h) holds
 each_at l (one {rest = others} holds rest) (suc i) h = each_at others rest i h
 
 -- Those of two lists in a row.
-pub get_elem?_front : {A : Type 0} (l m : List A) (i : ℕ) {a : A} → get_elem? l i ≡ some a → get_elem? (l ++ m) i ≡ some a
-get_elem?_front [] m i h = absurd (none-ne-some _ h)
-get_elem?_front (x ∷ l) m zero h = h
-get_elem?_front (x ∷ l) m (suc i) h = get_elem?_front l m i h
+pub slice_get_front : {A : Type 0} (l m : List A) (i : ℕ) {a : A} → slice_get l i ≡ Some a → slice_get (l ++ m) i ≡ Some a
+slice_get_front [] m i h = absurd (none-ne-some _ h)
+slice_get_front (x ∷ l) m zero h = h
+slice_get_front (x ∷ l) m (suc i) h = slice_get_front l m i h
 
-pub get_elem?_behind : {A : Type 0} (l m : List A) (i : ℕ) → get_elem? (l ++ m) (length l + i) ≡ get_elem? m i
-get_elem?_behind [] m i = let z : 0 + i ≡ i = omega arith in rw z
-get_elem?_behind (x ∷ l) m i = let z : suc (length l) + i ≡ suc (length l + i) = omega arith in rw z (get_elem?_behind l m i)
+pub slice_get_behind : {A : Type 0} (l m : List A) (i : ℕ) → slice_get (l ++ m) (length l + i) ≡ slice_get m i
+slice_get_behind [] m i = let z : 0 + i ≡ i = omega arith in rw z
+slice_get_behind (x ∷ l) m i = let z : suc (length l) + i ≡ suc (length l + i) = omega arith in rw z (slice_get_behind l m i)

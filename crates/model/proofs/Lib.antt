@@ -27,3 +27,4 @@ pub mod Listings
 pub mod Samples
 pub mod Rows
 pub mod StarredRuns
+pub mod Options

@@ -1,5 +1,7 @@
 -- Lists of numbers: membership, distinctness, one number taken out, and the pigeonhole. A list of distinct numbers that all stand in another list is
 -- no longer than that one: take its first number out of both, and go on with the rest.
+use Rattle.std.specs.Prelude.{Some, slice_get}
+use Rattle.model.proofs.Options.{none-ne-some, some-injective}
 use Prim.Native.Nat.{ℕ, zero, suc, ◌+◌, ◌≤◌, ◌<◌}
 use mathlib.Core.Path.{◌≡◌, refl, sym, ap, ◌∙◌}
 use mathlib.Core.Bool.{true, false, false≢true}
@@ -8,10 +10,9 @@ use mathlib.Core.List.{List, [], ◌∷◌, ◌++◌}
 pub use mathlib.Core.List.Memᴰ.{head as here}
 pub use mathlib.Core.List.Memᴰ.{tail as there}
 use mathlib.Core.Logic.{⊎_elim}
-use mathlib.Core.Option.{some, none-ne-some, some-injective}
 use native.Mathlib.Omega.{arith}
 use lib.Dec.{eqb}
-use lib.ListN.{length, get_elem?}
+use lib.ListN.{length}
 use borrow.Author.Tests.{eqb-true, eqb-false}
 use Rattle.model.specs.Choice.{member, numbers_from}
 use Rattle.model.specs.Orders.{without}
@@ -19,11 +20,11 @@ use Rattle.model.specs.Lists.{◌∈◌, Precedes, Distinct, Rising}
 use Rattle.model.proofs.Laws.{decided}
 
 -- What stands in a list has a place there, and what has a place stands there.
-pub position : {A : Type 0} {a : A} {l : List A} → a ∈ l → (i : ℕ) × (get_elem? l i ≡ some a)
-position (here e) = (0, ap some (sym e))
+pub position : {A : Type 0} {a : A} {l : List A} → a ∈ l → (i : ℕ) × (slice_get l i ≡ Some a)
+position (here e) = (0, ap Some (sym e))
 position (there m) = (suc (position m).0, (position m).1)
 
-pub at_position : {A : Type 0} (l : List A) (i : ℕ) {a : A} → get_elem? l i ≡ some a → a ∈ l
+pub at_position : {A : Type 0} (l : List A) (i : ℕ) {a : A} → slice_get l i ≡ Some a → a ∈ l
 at_position [] i h = absurd (none-ne-some _ h)
 at_position (x ∷ l) zero h = here (sym (some-injective _ _ h))
 at_position (x ∷ l) (suc i) h = there (at_position l i h)
@@ -43,7 +44,7 @@ member_false g (x ∷ l) h m =
     (λ t. ⊎_elim (eqb-false g x t) (member_false g l (rw t at h)) (Memᴰ.cases_cons m))
 
 -- In a list of distinct numbers each has one place.
-pub one_place : (l : List ℕ) → Distinct l → (i j : ℕ) {g : ℕ} → get_elem? l i ≡ some g → get_elem? l j ≡ some g → i ≡ j
+pub one_place : (l : List ℕ) → Distinct l → (i j : ℕ) {g : ℕ} → slice_get l i ≡ Some g → slice_get l j ≡ Some g → i ≡ j
 one_place [] d i j p q = absurd (none-ne-some _ p)
 one_place (x ∷ l) d zero zero p q = refl
 one_place (x ∷ l) d zero (suc j) p q = absurd (d.0 (Memᴰ.cast (some-injective _ _ p) (at_position l j q)))

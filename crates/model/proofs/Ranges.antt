@@ -1,5 +1,6 @@
 -- What was read is in its ranges: a header is within the limits, and every item of a record is one "as a record has them". A field passed its test if
 -- its map bit stands, and each right map of a kind has the bits that the kind needs.
+use Rattle.std.specs.Prelude.{Some, None}
 use Prim.Native.Nat.{ℕ, ◌+◌, ◌*◌, ◌<◌, ◌≤◌}
 use mathlib.Core.Path.{◌≡◌, refl}
 use mathlib.Core.Bool.{Bool, true, false, true≢false, not, ◌&&◌, ◌||◌}
@@ -9,10 +10,9 @@ use lib.Dec.{ltb, leb, eqb}
 use borrow.Author.Tests.{ltb-true, leb-true}
 use Rattle.model.specs.declared.Header.{Header}
 use Rattle.model.specs.declared.Kind.{Kind}
-use Rattle.model.specs.declared.Given.TheVariants.{Value, Absent}
 use Rattle.model.specs.declared.Item.{Item}
 use Rattle.model.specs.Limits.{max_ranks, max_cells, max_registers, max_queues, max_states, short_transitions, max_transitions, long_count, max_items, byte_values}
-use Rattle.model.specs.Refusals.{ok, program_length, program_range, record_length, record_range}
+use Rattle.model.specs.Refusals.{Ok, program_length, program_range, record_length, record_range}
 use Rattle.model.specs.Choice.{between, bit, Each}
 use Rattle.model.specs.Bytes.{AreBytes, here, byte, word, judged, optional, times}
 use Rattle.model.specs.ItemKinds.{item_kinds, has_place, Part, command, fetch, delivery, part_of}
@@ -63,7 +63,7 @@ header_finds =
     })
 
 -- A program that was read has a header within the limits.
-pub header_fits : (bytes : List ℕ) {P : Program} → read_program bytes ≡ ok P → HeaderFits P.header
+pub header_fits : (bytes : List ℕ) {P : Program} → read_program bytes ≡ Ok P → HeaderFits P.header
 unfolding read_program_in program_reader_in
 header_fits bytes =
     whole_finds program_length program_reader bytes (λ P. HeaderFits P.header)
@@ -118,11 +118,11 @@ number_finds_below named false transitions low below = finds_pure low (λ standi
 -- A value of two bytes fits 16 bits.
 given_finds : {bytes : List ℕ} → Finds bytes given_value (λ g. AreBytes bytes → GivenIn g)
 unfolding given_value
-given_finds = finds_bind (finds_word record_length) λ v below. finds_pure (Value v) below
+given_finds = finds_bind (finds_word record_length) λ v below. finds_pure (Some v) below
 
-absent_or_given : {bytes : List ℕ} (present : Bool) → Finds bytes (optional present Absent given_value) (λ g. AreBytes bytes → GivenIn g)
+absent_or_given : {bytes : List ℕ} (present : Bool) → Finds bytes (optional present None given_value) (λ g. AreBytes bytes → GivenIn g)
 absent_or_given true = given_finds
-absent_or_given false = finds_pure Absent (λ _. tt)
+absent_or_given false = finds_pure None (λ _. tt)
 
 -- An item whose fields are in their ranges; its value is, where the bytes are bytes.
 pub record Ranged (header : Header) (bytes : List ℕ) (i : Item) : Type 0 where
@@ -186,7 +186,7 @@ ranged_in_record bound r =
       given = r.given bound;
     }
 
-pub read_in_record : (header : Header) (bytes : List ℕ) {items : List Item} → AreBytes bytes → read_record header bytes ≡ ok items →
+pub read_in_record : (header : Header) (bytes : List ℕ) {items : List Item} → AreBytes bytes → read_record header bytes ≡ Ok items →
     Each (InRecord header) items
 unfolding read_record_in record_reader_in
 read_in_record header bytes bound h =

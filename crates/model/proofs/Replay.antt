@@ -1,19 +1,19 @@
 -- What must hold if the replay takes an item, and what suffices: its row allows it; a command item has its transition, its action and its access; a
 -- pop has the entry that it chooses. The state after it and its event are then the definitions' own. The item's number has no part in it.
+use Rattle.std.specs.Prelude.{Option, Some, None, slice_get}
+use Rattle.model.proofs.Options.{none-ne-some, some-injective}
 use Prim.Native.Nat.{ℕ}
 use mathlib.Core.Path.{◌≡◌, refl, ap, subst}
 use mathlib.Core.Bool.{true, false, ◌&&◌, ◌||◌, Bool}
 use mathlib.Core.List.{List, [], ◌∷◌, ◌++◌}
 use mathlib.Core.Logic.{◌⊎◌, inl, inr}
-use mathlib.Core.Option.{Option, some, none, none-ne-some, some-injective}
 use lib.Dec.{eqb}
-use lib.ListN.{get_elem?}
 use borrow.Author.Tests.{eqb-true, eq-eqb}
 use Rattle.model.specs.declared.Address.{Address}
 use Rattle.model.specs.declared.Kind.{Kind}
 use Rattle.model.specs.declared.Kind.TheVariants.{Popa, Popb}
 use Rattle.model.specs.declared.Item.{Item}
-use Rattle.model.specs.Refusals.{ok, wrong_transition, access_differs, barrier_row}
+use Rattle.model.specs.Refusals.{Ok, wrong_transition, access_differs, barrier_row}
 use Rattle.model.specs.Choice.{Each, all, one}
 use Rattle.model.specs.ItemKinds.{same_kind, Part, command, fetch, delivery, part_of}
 use Rattle.model.specs.Programs.{Program, Transition, kind_of}
@@ -27,10 +27,10 @@ use Rattle.model.proofs.Actions.{action_at}
 pub record CommandTaken (P : Program) (s : Replay) (i : Item) (t : Transition) (a : Action) : Type 0 where
   pub allowed : row_allows s.row i ≡ true
   pub part : part_of i.kind ≡ command
-  pub found : get_elem? P.transitions i.transition ≡ some t
+  pub found : slice_get P.transitions i.transition ≡ Some t
   pub source : t.source ≡ s.machine.control i.rank
   pub kind : kind_of t.command ≡ i.kind
-  pub acts : (at : ℕ) → action P i.rank (s.machine.registers i.rank) at t.command ≡ ok a
+  pub acts : (at : ℕ) → action P i.rank (s.machine.registers i.rank) at t.command ≡ Ok a
   pub agreed : agrees_with i (access_of i.rank a s.machine.cells) ≡ true
 
 -- A pop of a kind with the entry that it takes out of its queue, the oldest among those that it chooses from, the entries that it leaves, and its
@@ -39,7 +39,7 @@ pub record PopTaken (s : Replay) (i : Item) (kind : Kind) {Entry : Type 0} (amon
     (rest : List Entry) (access : Option Access) : Type 0 where
   pub allowed : row_allows s.row i ≡ true
   pub kind_is : i.kind ≡ kind
-  pub chosen : oldest among queue ≡ some (entry, rest)
+  pub chosen : oldest among queue ≡ Some (entry, rest)
   pub agreed : agrees_with i access ≡ true
 
 abbrev pub FetchTaken : Replay → Item → Request Origin → List (Request Origin) → Type 0
@@ -82,13 +82,13 @@ module _ {A : Type 0} (among : A → Bool) where
       }
 
   found_behind : (b : A) (l : List A) {a : A} {rest : List A} (o : Option (A × List A)) → among b ≡ false →
-      ((x : A) (left : List A) → o ≡ some (x, left) → Oldest among l x left) → behind b o ≡ some (a, rest) → Oldest among (b ∷ l) a rest
-  found_behind b l none fails theirs h = absurd (none-ne-some _ h)
-  found_behind b l {a} {rest} (some (x, left)) fails theirs h =
+      ((x : A) (left : List A) → o ≡ Some (x, left) → Oldest among l x left) → behind b o ≡ Some (a, rest) → Oldest among (b ∷ l) a rest
+  found_behind b l None fails theirs h = absurd (none-ne-some _ h)
+  found_behind b l {a} {rest} (Some (x, left)) fails theirs h =
       subst (λ (y : A × List A). Oldest among (b ∷ l) y.0 y.1) (some-injective (x, b ∷ left) (a, rest) h)
       (oldest_behind b l fails (theirs x left refl))
 
-  pub oldest_is : (l : List A) {a : A} {rest : List A} → oldest among l ≡ some (a, rest) → Oldest among l a rest
+  pub oldest_is : (l : List A) {a : A} {rest : List A} → oldest among l ≡ Some (a, rest) → Oldest among l a rest
   unfolding oldest
   oldest_is [] h = absurd (none-ne-some _ h)
   oldest_is (b ∷ l) {a} {rest} h =
@@ -98,16 +98,16 @@ module _ {A : Type 0} (among : A → Bool) where
       (oldest_here b l passes))
       (λ fails. found_behind b l (oldest among l) fails (λ x left. oldest_is l) (rw fails at h))
 
-  pub is_oldest : {l : List A} {a : A} {rest : List A} → Oldest among l a rest → oldest among l ≡ some (a, rest)
+  pub is_oldest : {l : List A} {a : A} {rest : List A} → Oldest among l a rest → oldest among l ≡ Some (a, rest)
   unfolding oldest
   is_oldest {a = a} o = rw (o.stands, o.leaves) (go o.older o.newer o.first)
     where
-      go : (older newer : List A) → Each (λ x. among x ≡ false) older → oldest among (older ++ a ∷ newer) ≡ some (a, older ++ newer)
+      go : (older newer : List A) → Each (λ x. among x ≡ false) older → oldest among (older ++ a ∷ newer) ≡ Some (a, older ++ newer)
       go [] newer each = rw o.passes
       go (b ∷ older) newer (one fails each) = rw (fails, go older newer each)
 
   -- The one entry of a queue is the oldest, if it passes.
-  pub oldest_only : {l : List A} {a : A} → l ≡ a ∷ [] → among a ≡ true → oldest among l ≡ some (a, [])
+  pub oldest_only : {l : List A} {a : A} → l ≡ a ∷ [] → among a ≡ true → oldest among l ≡ Some (a, [])
   unfolding oldest
   oldest_only h passes = rw (h, passes)
 
@@ -134,14 +134,14 @@ pub taken_oldest : {s : Replay} {i : Item} {kind : Kind} {Entry : Type 0} {among
 taken_oldest {among = among} {queue} taken = oldest_is among queue taken.chosen
 
 -- The test on the access comes last.
-agreed_ok : (at : ℕ) (after : Taken) {taken : Taken} → agreed at after ≡ ok taken →
+agreed_ok : (at : ℕ) (after : Taken) {taken : Taken} → agreed at after ≡ Ok taken →
     (agrees_with after.event.item after.event.access ≡ true) × (after ≡ taken)
 unfolding agreed
 agreed_ok at after h =
     let (agrees, done) = required (agrees_with after.event.item after.event.access) access_differs at _ h in
     (agrees, ok_injective done)
 
-ok_agreed : (at : ℕ) (after : Taken) → agrees_with after.event.item after.event.access ≡ true → agreed at after ≡ ok after
+ok_agreed : (at : ℕ) (after : Taken) → agrees_with after.event.item after.event.access ≡ true → agreed at after ≡ Ok after
 unfolding agreed
 ok_agreed at after h = rw h
 
@@ -151,11 +151,11 @@ module _ (P : Program) (s : Replay) (at : ℕ) (i : Item) where
   fits t = eqb t.source (s.machine.control i.rank) && same_kind (kind_of t.command) i.kind
 
   module _ (allowed : row_allows s.row i ≡ true) {taken : Taken} where
-    command_taken : (o : Option Transition) → part_of i.kind ≡ command → get_elem? P.transitions i.transition ≡ o →
-        take_transition P s at i o ≡ ok taken → ItemTaken P s i taken
+    command_taken : (o : Option Transition) → part_of i.kind ≡ command → slice_get P.transitions i.transition ≡ o →
+        take_transition P s at i o ≡ Ok taken → ItemTaken P s i taken
     unfolding take_transition
-    command_taken none part found h = absurd (refused≢ok h)
-    command_taken (some t) part found h =
+    command_taken None part found h = absurd (refused≢ok h)
+    command_taken (Some t) part found h =
         let (test, asked) = required (fits t) wrong_transition at _ h in
         let (from, kind) = and-true (eqb t.source (s.machine.control i.rank)) (same_kind (kind_of t.command) i.kind) test in
         let (a, acts, checked) = bind_ok (action P i.rank (s.machine.registers i.rank) at t.command) _ asked in
@@ -173,40 +173,40 @@ module _ (P : Program) (s : Replay) (at : ℕ) (i : Item) where
         }))
 
     fetch_taken : (o : Option (Request Origin × List (Request Origin))) → i.kind ≡ Popa →
-        oldest (request_for i) (s.machine.requests i.rank i.queue) ≡ o → take_fetch s at i o ≡ ok taken → ItemTaken P s i taken
+        oldest (request_for i) (s.machine.requests i.rank i.queue) ≡ o → take_fetch s at i o ≡ Ok taken → ItemTaken P s i taken
     unfolding take_fetch
-    fetch_taken none kind chosen h = absurd (refused≢ok h)
-    fetch_taken (some (a, rest)) kind chosen h =
+    fetch_taken None kind chosen h = absurd (refused≢ok h)
+    fetch_taken (Some (a, rest)) kind chosen h =
         let (agrees, done) = agreed_ok at (after_fetch s i a rest) h in
         subst (ItemTaken P s i) done
         (fetches a rest (record { allowed = allowed; kind_is = kind; chosen = chosen; agreed = agrees }))
 
     delivery_taken : (o : Option (Delivery Origin × List (Delivery Origin))) → i.kind ≡ Popb →
-        oldest (delivery_for i) (s.machine.deliveries i.rank i.queue) ≡ o → take_delivery s at i o ≡ ok taken → ItemTaken P s i taken
+        oldest (delivery_for i) (s.machine.deliveries i.rank i.queue) ≡ o → take_delivery s at i o ≡ Ok taken → ItemTaken P s i taken
     unfolding take_delivery
-    delivery_taken none kind chosen h = absurd (refused≢ok h)
-    delivery_taken (some (b, rest)) kind chosen h =
+    delivery_taken None kind chosen h = absurd (refused≢ok h)
+    delivery_taken (Some (b, rest)) kind chosen h =
         let (agrees, done) = agreed_ok at (after_delivery s i b rest) h in
         subst (ItemTaken P s i) done
         (delivers b rest (record { allowed = allowed; kind_is = kind; chosen = chosen; agreed = agrees }))
 
-    part_taken : (p : Part) → part_of i.kind ≡ p → take_part P s at i p ≡ ok taken → ItemTaken P s i taken
+    part_taken : (p : Part) → part_of i.kind ≡ p → take_part P s at i p ≡ Ok taken → ItemTaken P s i taken
     unfolding take_part
-    part_taken command part h = command_taken (get_elem? P.transitions i.transition) part refl h
+    part_taken command part h = command_taken (slice_get P.transitions i.transition) part refl h
     part_taken fetch part h =
         fetch_taken (oldest (request_for i) (s.machine.requests i.rank i.queue)) (fetch_kind i.kind part) refl h
     part_taken delivery part h =
         delivery_taken (oldest (delivery_for i) (s.machine.deliveries i.rank i.queue)) (delivery_kind i.kind part) refl h
 
   -- An item is taken: all this holds.
-  pub item_taken : {taken : Taken} → take_item P s at i ≡ ok taken → ItemTaken P s i taken
+  pub item_taken : {taken : Taken} → take_item P s at i ≡ Ok taken → ItemTaken P s i taken
   unfolding take_item
   item_taken h =
       let (allowed, part) = required (row_allows s.row i) barrier_row at _ h in
       part_taken allowed (part_of i.kind) refl part
 
   -- All this holds: the item is taken.
-  pub takes_item : {taken : Taken} → ItemTaken P s i taken → take_item P s at i ≡ ok taken
+  pub takes_item : {taken : Taken} → ItemTaken P s i taken → take_item P s at i ≡ Ok taken
   unfolding take_item take_part take_transition take_fetch take_delivery
   takes_item (commands t a c) =
       let same = eq-eqb t.source (s.machine.control i.rank) c.source in

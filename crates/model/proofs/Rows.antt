@@ -1,21 +1,18 @@
 -- What a row of the table asks, what the definitions reply, and rows of each kind.
+use Rattle.model.specs.declared.Verdict.TheVariants.{Order, Ring}
+use Rattle.std.specs.Prelude.{Some, Ok}
 use Prim.Native.Nat.{ℕ, ◌+◌, ◌-◌}
 use mathlib.Core.List.{List, [], ◌∷◌, ◌++◌}
 use lib.ListN.{length, replicate}
-use Rattle.model.specs.declared.Answer.{Answer}
-use Rattle.model.specs.declared.Answer.TheVariants.{Order, Ring, Refused}
-use Rattle.model.specs.declared.Filled.{Filled}
-use Rattle.model.specs.declared.Filled.TheVariants.{Entries}
-use Rattle.model.specs.declared.Given.TheVariants.{Value}
 use Rattle.model.specs.declared.Header.{Header}
 use Rattle.model.specs.declared.Item.{Item}
 use Rattle.model.specs.declared.Kind.TheVariants.{Store}
 use Rattle.model.specs.declared.Refusal.{Refusal}
-use Rattle.model.specs.Refusals.{Result, ok, refused}
+use Rattle.model.specs.Refusals.{Result, Ok, Err}
 use Rattle.model.specs.Formats.{item_maps}
 use Rattle.model.specs.Records.{read_record_in, read_record}
 use Rattle.model.specs.Machine.{address}
-use Rattle.model.specs.Checks.{Outcome, check_in, check, check_bytes_in, check_bytes}
+use Rattle.model.specs.Checks.{Outcome, check_in, check, check_bytes_in, check_bytes, Answer}
 use Rattle.model.specs.Lending.{Lent}
 use Rattle.model.specs.Slips.{write_slip_in, write_slip, read_slip_in, read_slip}
 use Rattle.model.specs.Starts.{write_start, write_start_bytes, read_start_into, read_start_into_bytes}
@@ -76,7 +73,7 @@ order_from program start recorded groups cells =
       question = checks program start recorded (nines (length groups + 1)) (nines (length cells + 1));
       expected =
           checked
-          (record { answer = Order (length groups); order = groups ++ 9 ∷ []; cells = cells ++ 9 ∷ [] });
+          (record { answer = Ok (Order (length groups)); order = groups ++ 9 ∷ []; cells = cells ++ 9 ∷ [] });
     }
 
 unfoldable pub order_row : (program recorded groups cells : List ℕ) → Row
@@ -91,7 +88,7 @@ ring_from program start recorded groups ring cells =
       question = checks program start recorded (nines groups) (nines (length cells));
       expected =
           checked
-          (record { answer = Ring (length ring); order = ring ++ nines (groups - length ring); cells = cells });
+          (record { answer = Ok (Ring (length ring)); order = ring ++ nines (groups - length ring); cells = cells });
     }
 
 unfoldable pub ring_row : (program recorded : List ℕ) → (groups : ℕ) → (ring cells : List ℕ) → Row
@@ -115,7 +112,7 @@ refused_with_from order_length cells_length program start recorded number place 
       question = checks program start recorded (nines order_length) (nines cells_length);
       expected =
           checked
-          (record { answer = Refused (refusal number place); order = nines order_length; cells = nines cells_length });
+          (record { answer = Err (refusal number place); order = nines order_length; cells = nines cells_length });
     }
 
 unfoldable pub refused_with : (order_length cells_length : ℕ) → (program recorded : List ℕ) → (number place : ℕ) → Row
@@ -155,14 +152,14 @@ no_listing_row program recorded memory needed =
     record {
       question = lists program [] recorded (nines memory);
       expected =
-          printed (record { result = record { answer = Refused (refusal 15 needed); length = 0 }; memory = nines memory });
+          printed (record { result = record { answer = Err (refusal 15 needed); length = 0 }; memory = nines memory });
     }
 
 -- A slip or a start written, counts or cells read: entries that fill the memory, longer by so many, and by one.
 unfoldable pub filled_with : (room : ℕ) → Question → (entries : List ℕ) → Row
 unfolding nines
 filled_with room question entries =
-    record { question = question; expected = lent (record { answer = Entries (length entries); memory = entries ++ nines room }) }
+    record { question = question; expected = lent (record { answer = Ok (length entries); memory = entries ++ nines room }) }
 
 unfoldable pub filled : Question → (entries : List ℕ) → Row
 unfolding filled_with
@@ -171,7 +168,7 @@ filled = filled_with 1
 unfoldable pub not_filled : Question → (memory number place : ℕ) → Row
 unfolding nines refusal
 not_filled question memory number place =
-    record { question = question; expected = lent (record { answer = Filled.Refused (refusal number place); memory = nines memory }) }
+    record { question = question; expected = lent (record { answer = Err (refusal number place); memory = nines memory }) }
 
 -- Of a program of one rank and cell with so many transitions: a record that holds one store of 7 by this transition, or is refused by 5 at this place.
 unfoldable pub numbered : (transitions : ℕ) → (recorded : List ℕ) → Question
@@ -187,11 +184,11 @@ number_row transitions recorded number =
       question = numbered transitions recorded;
       expected =
           items
-          (ok
-          (record { kind = Store; rank = 1; transition = number; queue = 0; place = address 1 0; given = Value 7; remote = 0 } ∷ []));
+          (Ok
+          (record { kind = Store; rank = 1; transition = number; queue = 0; place = address 1 0; given = Some 7; remote = 0 } ∷ []));
     }
 
 unfoldable pub no_number_row : (transitions : ℕ) → (recorded : List ℕ) → (place : ℕ) → Row
 unfolding numbered refusal
 no_number_row transitions recorded place =
-    record { question = numbered transitions recorded; expected = items (refused (refusal 5 place)) }
+    record { question = numbered transitions recorded; expected = items (Err (refusal 5 place)) }

@@ -1,5 +1,7 @@
 -- Selections from lists. Where a member stands in the selection is how many are selected before it; so two lists with one selection have its
 -- members in one order, and agree on what is selected before each of them.
+use Rattle.std.specs.Prelude.{Some, slice_get}
+use Rattle.model.proofs.Options.{none-ne-some}
 use Prim.Native.Nat.{ℕ, zero, suc, ◌<◌, ◌≤◌, ◌+◌}
 use mathlib.Core.Path.{◌≡◌, refl, sym, ◌∙◌, ap, ap₂}
 use mathlib.Core.Bool.{Bool, true, false, not, true≢false}
@@ -9,11 +11,10 @@ use mathlib.Core.List.Memᴰ.{head as here}
 use mathlib.Core.List.Memᴰ.{tail as there}
 use mathlib.Core.List.{Memᴰ as Member}
 use mathlib.Core.Logic.{⊎_elim}
-use mathlib.Core.Option.{some, none-ne-some}
 use native.Mathlib.Nat.{le_of_suc-le-suc, not-suc-le-zero, zero-lt-suc, lt_of_not-le}
 use native.Mathlib.Omega.{arith}
 use native.Mathlib.Numerals.{add-one}
-use lib.ListN.{length, take, get_elem?, length-append}
+use lib.ListN.{length, take, length-append}
 use Rattle.model.specs.Choice.{select}
 use Rattle.model.proofs.Laws.{decided}
 
@@ -68,13 +69,13 @@ select_commute p q (x ∷ l) =
     (λ hq. rw (select_no q x l hq, select_no p x l hp) (select_commute p q l)))
 
 -- What stands behind a list is its next member.
-pub split_at : {A : Type 0} (l : List A) (x : A) (m : List A) → get_elem? (l ++ x ∷ m) (length l) ≡ some x
+pub split_at : {A : Type 0} (l : List A) (x : A) (m : List A) → slice_get (l ++ x ∷ m) (length l) ≡ Some x
 split_at [] x m = refl
 split_at (y ∷ l) x m = split_at l x m
 
 -- A selected member stands in the selection behind those that are selected before it.
-pub select_at : {A : Type 0} (p : A → Bool) (l : List A) (i : ℕ) {x : A} → get_elem? l i ≡ some x → p x ≡ true →
-    get_elem? (select p l) (length (select p (take i l))) ≡ some x
+pub select_at : {A : Type 0} (p : A → Bool) (l : List A) (i : ℕ) {x : A} → slice_get l i ≡ Some x → p x ≡ true →
+    slice_get (select p l) (length (select p (take i l))) ≡ Some x
 unfolding select
 select_at p [] i h t = absurd (none-ne-some _ h)
 select_at p (y ∷ l) zero {x} h t =
@@ -99,7 +100,7 @@ select_take p (y ∷ l) (suc i) =
 -- A member of the selection comes from a place of the list.
 pub record Selected {A : Type 0} (p : A → Bool) (l : List A) (k : ℕ) (x : A) : Type 0 where
   pub i : ℕ
-  pub at : get_elem? l i ≡ some x
+  pub at : slice_get l i ≡ Some x
   pub passes : p x ≡ true
   pub before : length (select p (take i l)) ≡ k
 
@@ -116,13 +117,13 @@ kept p y l k hy s =
       before = ap length (select_yes p y (take s.i l) hy) ∙ ap suc s.before;
     }
 
-first_selected : {A : Type 0} (p : A → Bool) (y : A) (l : List A) {x : A} → p y ≡ true → some y ≡ some x → Selected p (y ∷ l) 0 x
+first_selected : {A : Type 0} (p : A → Bool) (y : A) (l : List A) {x : A} → p y ≡ true → Some y ≡ Some x → Selected p (y ∷ l) 0 x
 unfolding select
 first_selected p y l {x} hy h =
     let e : y ≡ x = cc in
     record { i = 0; at = h; passes = rw e at hy; before = refl }
 
-pub select_from : {A : Type 0} (p : A → Bool) (l : List A) (k : ℕ) {x : A} → get_elem? (select p l) k ≡ some x → Selected p l k x
+pub select_from : {A : Type 0} (p : A → Bool) (l : List A) (k : ℕ) {x : A} → slice_get (select p l) k ≡ Some x → Selected p l k x
 unfolding select
 select_from p [] k h = absurd (none-ne-some _ h)
 select_from p (y ∷ l) zero h =
@@ -146,7 +147,7 @@ select_grows p (y ∷ l) (suc i) (suc j) h =
     (λ hy. rw (select_yes p y (take i l) hy, select_yes p y (take j l) hy) (omega (arith, ih)))
     (λ hy. rw (select_no p y (take i l) hy, select_no p y (take j l) hy) ih)
 
-pub select_rises : {A : Type 0} (p : A → Bool) (l : List A) (i j : ℕ) {x : A} → get_elem? l i ≡ some x → p x ≡ true → i < j →
+pub select_rises : {A : Type 0} (p : A → Bool) (l : List A) (i j : ℕ) {x : A} → slice_get l i ≡ Some x → p x ≡ true → i < j →
     length (select p (take i l)) < length (select p (take j l))
 unfolding select
 select_rises p [] i j h t before = absurd (none-ne-some _ h)
@@ -168,8 +169,8 @@ selected_rises {p = p} {l = l} sx sy before =
 
 -- Hence in two lists with one selection its members come in one order ..
 pub select_order : {A : Type 0} (p : A → Bool) (l m : List A) → select p l ≡ select p m → (i j : ℕ) {x y : A} →
-    get_elem? l i ≡ some x → get_elem? l j ≡ some y → p x ≡ true → p y ≡ true → i < j →
-    (i' : ℕ) × (j' : ℕ) × (get_elem? m i' ≡ some x) × (get_elem? m j' ≡ some y) × (i' < j')
+    slice_get l i ≡ Some x → slice_get l j ≡ Some y → p x ≡ true → p y ≡ true → i < j →
+    (i' : ℕ) × (j' : ℕ) × (slice_get m i' ≡ Some x) × (slice_get m j' ≡ Some y) × (i' < j')
 select_order p l m same i j {x} {y} hx hy px py before =
     let sx : Selected p m (length (select p (take i l))) x = select_from p m _ (rw same at (select_at p l i hx px)) in
     let sy : Selected p m (length (select p (take j l))) y = select_from p m _ (rw same at (select_at p l j hy py)) in
@@ -177,8 +178,8 @@ select_order p l m same i j {x} {y} hx hy px py before =
 
 -- .. and what is selected before a member is the same in both.
 pub select_before : {A : Type 0} (p : A → Bool) (l m : List A) → select p l ≡ select p m → (i : ℕ) {x : A} →
-    get_elem? l i ≡ some x → p x ≡ true →
-    (j : ℕ) × (get_elem? m j ≡ some x) × (select p (take j m) ≡ select p (take i l))
+    slice_get l i ≡ Some x → p x ≡ true →
+    (j : ℕ) × (slice_get m j ≡ Some x) × (select p (take j m) ≡ select p (take i l))
 select_before p l m same i {x} hx px =
     let s : Selected p m (length (select p (take i l))) x = select_from p m _ (rw same at (select_at p l i hx px)) in (
       s.i,
@@ -187,19 +188,19 @@ select_before p l m same i {x} hx px =
     )
 
 -- A selection by a test that all members pass, or none.
-pub select_all : {A : Type 0} (p : A → Bool) (l : List A) → ((i : ℕ) (x : A) → get_elem? l i ≡ some x → p x ≡ true) → select p l ≡ l
+pub select_all : {A : Type 0} (p : A → Bool) (l : List A) → ((i : ℕ) (x : A) → slice_get l i ≡ Some x → p x ≡ true) → select p l ≡ l
 unfolding select
 select_all p [] h = refl
 select_all p (x ∷ l) h = rw (select_yes p x l (h 0 x refl)) (ap {B = List _} (λ r. x ∷ r) (select_all p l (λ i. h (suc i))))
 
-pub select_none : {A : Type 0} (p : A → Bool) (l : List A) → ((i : ℕ) (x : A) → get_elem? l i ≡ some x → p x ≡ false) → select p l ≡ []
+pub select_none : {A : Type 0} (p : A → Bool) (l : List A) → ((i : ℕ) (x : A) → slice_get l i ≡ Some x → p x ≡ false) → select p l ≡ []
 unfolding select
 select_none p [] h = refl
 select_none p (x ∷ l) h = rw (select_no p x l (h 0 x refl)) (select_none p l (λ i. h (suc i)))
 
 -- Where no member that passes stands behind one that does not, those that pass are the front.
 pub passing_first : {A : Type 0} (p : A → Bool) (l : List A) →
-    ((i j : ℕ) (x y : A) → get_elem? l i ≡ some x → get_elem? l j ≡ some y → i < j → p y ≡ true → p x ≡ true) →
+    ((i j : ℕ) (x y : A) → slice_get l i ≡ Some x → slice_get l j ≡ Some y → i < j → p y ≡ true → p x ≡ true) →
     select p l ++ select (λ x. not (p x)) l ≡ l
 unfolding select
 passing_first p [] h = refl
@@ -208,7 +209,7 @@ passing_first {A} p (x ∷ l) h =
     (λ t. rw (select_yes p x l t, select_no (λ y. not (p y)) x l (ap not t))
     (ap {B = List _} (λ r. x ∷ r) (passing_first p l (λ i j y z hy hz before. h (suc i) (suc j) y z hy hz (omega (arith, before))))))
     (λ t.
-    let others : (i : ℕ) (y : A) → get_elem? l i ≡ some y → p y ≡ false =
+    let others : (i : ℕ) (y : A) → slice_get l i ≡ Some y → p y ≡ false =
     λ i y hy. decided (p y) (λ ty. absurd (true≢false (sym (h 0 (suc i) x y refl hy (zero-lt-suc i) ty) ∙ t))) (λ ty. ty) in
     rw (
       select_no p x l t,

@@ -1,4 +1,5 @@
 -- Bytes that stand at a place: what a byte and a word say of the rest of the bytes, both ways.
+use Rattle.model.specs.declared.Found.{Found}
 use Prim.Native.Nat.{ℕ, zero, suc, ◌+◌, ◌/◌, ◌%◌, ◌<◌}
 use mathlib.Core.Path.{◌≡◌, sym, ap, ap₂, ◌∙◌}
 use mathlib.Core.List.{List, [], ◌∷◌}
@@ -11,8 +12,8 @@ use lib.ListN.{length, get_or, drop}
 use lib.Seq.{drop-cons}
 use borrow.Author.Tests.{ltb-true}
 use Rattle.model.specs.Limits.{byte_values}
-use Rattle.model.specs.Refusals.{ok}
-use Rattle.model.specs.Bytes.{AreBytes, Found, found, byte, word}
+use Rattle.model.specs.Refusals.{Ok}
+use Rattle.model.specs.Bytes.{AreBytes, found, byte, word}
 use Rattle.model.proofs.Laws.{decided, bind_ok, ok_injective, refused≢ok}
 use Rattle.model.proofs.Bytes.{byte_ok, byte_there, word_is}
 
@@ -35,7 +36,7 @@ first (y ∷ bytes) (suc at) e =
     let behind : suc at + 1 ≡ suc (at + 1) = omega arith in
     record { inside = omega (arith, rest.inside); is = rest.is; next = ap (λ n. drop n (y ∷ bytes)) behind ∙ rest.next }
 
-inside_byte : (early : ℕ) (bytes : List ℕ) (at : ℕ) {f : Found ℕ} → byte early bytes at ≡ ok f → at < length bytes
+inside_byte : (early : ℕ) (bytes : List ℕ) (at : ℕ) {f : Found ℕ} → byte early bytes at ≡ Ok f → at < length bytes
 unfolding byte
 inside_byte early bytes at h =
     decided (ltb at (length bytes)) (λ t. ltb-true at (length bytes) t) (λ t. absurd (refused≢ok (rw t at h)))
@@ -57,7 +58,7 @@ pub record Stands (bytes : List ℕ) (at : ℕ) (f : Found ℕ) : Type 0 where
   pub stands : drop at bytes ≡ f.value ∷ drop f.next bytes
   pub value : f.value ≡ get_or bytes at 0
 
-pub byte_stands : (early : ℕ) (bytes : List ℕ) (at : ℕ) {f : Found ℕ} → byte early bytes at ≡ ok f → Stands bytes at f
+pub byte_stands : (early : ℕ) (bytes : List ℕ) (at : ℕ) {f : Found ℕ} → byte early bytes at ≡ Ok f → Stands bytes at f
 byte_stands early bytes at h =
     let is = byte_ok early bytes at h in
     let next = sym (add-one at) ∙ ap (λ (f : Found ℕ). f.next) is in
@@ -68,7 +69,7 @@ byte_stands early bytes at h =
       value = ap (λ (f : Found ℕ). f.value) (sym is);
     }
 
-pub word_stands : (early : ℕ) (bytes : List ℕ) (at : ℕ) {f : Found ℕ} → AreBytes bytes → word early bytes at ≡ ok f →
+pub word_stands : (early : ℕ) (bytes : List ℕ) (at : ℕ) {f : Found ℕ} → AreBytes bytes → word early bytes at ≡ Ok f →
     drop at bytes ≡ f.value / byte_values ∷ f.value % byte_values ∷ drop f.next bytes
 word_stands early bytes at {f} bound h =
     let (a, ea, h₁) = bind_ok (byte early bytes at) _ (rw word_is at h) in

@@ -1,12 +1,12 @@
 -- The starred runs of document 01, a run for each refusal and each of its "Mistakes that look sound", rows that tell each definition from its neighbours,
 -- and the forms and refusals that document 02's requests brought, as one table in sections. Expected answers were worked out by hand from the papers. A
 -- theorem for each section, and one for the table, says that the definitions give each of them.
+use Rattle.model.specs.declared.Verdict.TheVariants.{Order, Ring}
+use Rattle.std.specs.Prelude.{Ok, Err}
 use Prim.Native.Nat.{ℕ, ◌/◌, ◌%◌}
 use mathlib.Core.Path.{◌≡◌, refl, sym, ◌∙◌, ap₂}
 use mathlib.Core.List.{List, [], ◌∷◌, ◌++◌, map, map-append}
 use lib.ListN.{replicate}
-use Rattle.model.specs.declared.Answer.TheVariants.{Order, Ring, Refused}
-use Rattle.model.specs.declared.Filled.TheVariants.{Entries}
 use Rattle.model.specs.Choice.{Each, all, one}
 use Rattle.model.specs.Listings.{join}
 use Rattle.model.proofs.Samples.{text, neighbour, no_items, late_after, late_delivery, delivery_first, alone, self_copy, write_item, pop_item, store_item}
@@ -165,10 +165,10 @@ unfolding
 verdict_rows =
     -- a* no items: an order of no groups (prints `order 0`)
     order_row neighbour no_items [] (0 ∷ 0 ∷ 0 ∷ 0 ∷ []) ∷
-    listing_row neighbour no_items (Order 0) order0 ∷
+    listing_row neighbour no_items (Ok (Order 0)) order0 ∷
     -- b* the load before the deliveries: the ring 3 4 5
     ring_row neighbour late_delivery 6 (3 ∷ 4 ∷ 5 ∷ []) (1 ∷ 2 ∷ 2 ∷ 1 ∷ []) ∷
-    listing_row neighbour late_delivery (Ring 3) late_listing ∷
+    listing_row neighbour late_delivery (Ok (Ring 3)) late_listing ∷
     -- c* as b with the load last (value 2): order 0 1 2 3 4 5
     order_row neighbour delivery_first (0 ∷ 1 ∷ 2 ∷ 3 ∷ 4 ∷ 5 ∷ []) (1 ∷ 2 ∷ 2 ∷ 1 ∷ []) ∷
     -- d* N = 1, a cell copied onto itself: order 0
@@ -183,17 +183,17 @@ verdict_rows =
     refused_with 6 3 neighbour late_delivery 15 4 ∷
     refused_with 0 3 neighbour no_items 15 4 ∷
     -- the recorder's entry: big-endian, two bytes an entry; the order's odd last byte is never used, nor is a fourth cell's half
-    entry_row neighbour late_delivery 13 8 (Ring 3) (0 ∷ 3 ∷ 0 ∷ 4 ∷ 0 ∷ 5 ∷ nines 7) (0 ∷ 1 ∷ 0 ∷ 2 ∷ 0 ∷ 2 ∷ 0 ∷ 1 ∷ []) ∷
-    entry_row neighbour late_delivery 12 7 (Refused (refusal 15 4)) (nines 12) (nines 7) ∷
-    entry_row neighbour late_delivery 11 7 (Refused (refusal 14 6)) (nines 11) (nines 7) ∷
+    entry_row neighbour late_delivery 13 8 (Ok (Ring 3)) (0 ∷ 3 ∷ 0 ∷ 4 ∷ 0 ∷ 5 ∷ nines 7) (0 ∷ 1 ∷ 0 ∷ 2 ∷ 0 ∷ 2 ∷ 0 ∷ 1 ∷ []) ∷
+    entry_row neighbour late_delivery 12 7 (Err (refusal 15 4)) (nines 12) (nines 7) ∷
+    entry_row neighbour late_delivery 11 7 (Err (refusal 14 6)) (nines 11) (nines 7) ∷
     -- the kind words of an assign, an assume and a read
-    listing_from ask_other (no_readings ++ readings 0 1 (0 ∷ 7 ∷ [])) other_asked (Order 3) asked_listing ∷
+    listing_from ask_other (no_readings ++ readings 0 1 (0 ∷ 7 ∷ [])) other_asked (Ok (Order 3)) asked_listing ∷
     -- the listing of a refused input is its `refused` line; 15 with the length of what does not fit, and an exact fit
-    listing_row [] [] (Refused (refusal 1 0)) refused_line10 ∷
-    listing_with 0 [] [] [] (Refused (refusal 1 0)) refused_line10 ∷
+    listing_row [] [] (Err (refusal 1 0)) refused_line10 ∷
+    listing_with 0 [] [] [] (Err (refusal 1 0)) refused_line10 ∷
     no_listing_row [] [] 11 12 ∷
     no_listing_row neighbour no_items 7 8 ∷
-    listing_with 0 neighbour [] late_delivery (Ring 3) late_listing ∷
+    listing_with 0 neighbour [] late_delivery (Ok (Ring 3)) late_listing ∷
     no_listing_row neighbour late_delivery 101 102 ∷
     -- the slip: ranks 1 and 2 have 4 and 3 command items; a run without command items has an empty map; refused input; an exact fit; 15
     filled (writes neighbour [] late_delivery (nines 6)) (3 ∷ 0 ∷ 4 ∷ 0 ∷ 3 ∷ []) ∷
@@ -277,7 +277,7 @@ rank_rows =
     order_row (far_copy 16) (far_record 9 16) (0 ∷ 1 ∷ []) (replicate 8 0 ++ 9 ∷ (replicate 6 0 ++ 9 ∷ [])) ∷
     refused_row (far_copy 15) (0 ∷ 2 ∷ far_commands 9) 8 1 ∷
     refused_with 2 15 (far_copy 16) (far_record 16 9) 15 16 ∷
-    listing_row (far_copy 16) (far_record 16 9) (Order 2) far_listing ∷
+    listing_row (far_copy 16) (far_record 16 9) (Ok (Order 2)) far_listing ∷
     -- "the rank map takes two bytes if N is above 8 and one otherwise", the high byte first
     filled (writes (bar_alone 8) [] (bar_record 8) (nines 18)) (255 ∷ 0 ∷ 1 ∷ 0 ∷ 1 ∷ 0 ∷ 1 ∷ 0 ∷ 1 ∷ 0 ∷ 1 ∷ 0 ∷ 1 ∷ 0 ∷ 1 ∷ 0 ∷ 1 ∷ []) ∷
     filled (writes (bar_alone 9) [] (bar_record 9) (nines 21))
@@ -398,7 +398,7 @@ unfolding
 start_rows =
     -- a start and no items: `order 0` and the readings; "No bytes at all .. mean that all is 0", and so do the maps without a bit
     order_from neighbour gauge_start no_items [] (0 ∷ 2_314 ∷ 0 ∷ 0 ∷ []) ∷
-    listing_from neighbour gauge_start no_items (Order 0) gauge_listing ∷
+    listing_from neighbour gauge_start no_items (Ok (Order 0)) gauge_listing ∷
     order_from neighbour [] no_items [] (replicate 4 0) ∷
     order_from neighbour (no_readings ++ no_readings) no_items [] (replicate 4 0) ∷
     -- "bit a for cell a": the lowest bit of the eighth byte, the highest of the first; "cells rising", the high byte first
@@ -461,7 +461,7 @@ start_rows =
     not_filled (recalls_bytes neighbour gauge_start (nines 7)) 7 15 4 ∷
     record {
       question = recalls_bytes neighbour gauge_start (nines 9);
-      expected = lent (record { answer = Entries 4; memory = 0 ∷ 0 ∷ 9 ∷ 10 ∷ 0 ∷ 0 ∷ 0 ∷ 0 ∷ 9 ∷ [] });
+      expected = lent (record { answer = Ok 4; memory = 0 ∷ 0 ∷ 9 ∷ 10 ∷ 0 ∷ 0 ∷ 0 ∷ 0 ∷ 9 ∷ [] });
     } ∷
     -- the slip is that of the run, whatever it begins from
     filled (writes neighbour gauge_start delivery_first (nines 6)) (3 ∷ 0 ∷ 4 ∷ 0 ∷ 3 ∷ []) ∷

@@ -1,9 +1,10 @@
 -- Tables: what holds of every row holds of what is found under a number.
+use Rattle.std.specs.Prelude.{Option, Some, None}
+use Rattle.model.proofs.Options.{none-ne-some, some-injective}
 use Prim.Native.Nat.{ℕ}
 use mathlib.Core.Path.{◌≡◌, subst}
 use mathlib.Core.Bool.{Bool, true, false≢true, ◌&&◌}
 use mathlib.Core.List.{List, [], ◌∷◌}
-use mathlib.Core.Option.{Option, some, none, none-ne-some, some-injective}
 use lib.Dec.{eqb}
 use borrow.Author.Tests.{eqb-true}
 use Rattle.model.specs.Choice.{lookup, member, Each, all, one}
@@ -11,7 +12,7 @@ use Rattle.model.specs.Replay.{every}
 use Rattle.model.proofs.Laws.{decided, and-true}
 
 -- What a table has under a number, whether it has something or not.
-pub lookup_holds : {A : Type 0} (Holds : Option A → Type 0) (n : ℕ) (rows : List (ℕ × A)) → Holds none → Each (λ row. Holds (some row.1)) rows →
+pub lookup_holds : {A : Type 0} (Holds : Option A → Type 0) (n : ℕ) (rows : List (ℕ × A)) → Holds None → Each (λ row. Holds (Some row.1)) rows →
     Holds (lookup n rows)
 unfolding lookup
 lookup_holds Holds n [] missing all = missing
@@ -24,7 +25,7 @@ every_row test [] = true
 every_row test (row ∷ rows) = test row.0 row.1 && every_row test rows
 
 pub looked_up : {A : Type 0} (test : ℕ → A → Bool) (n : ℕ) (rows : List (ℕ × A)) {a : A} → every_row test rows ≡ true →
-    lookup n rows ≡ some a → test n a ≡ true
+    lookup n rows ≡ Some a → test n a ≡ true
 unfolding lookup every_row
 looked_up test n [] e h = absurd (none-ne-some _ h)
 looked_up test n (row ∷ rows) e h =

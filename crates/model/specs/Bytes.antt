@@ -1,22 +1,18 @@
 -- Reading bytes (document 01, the paragraph after the table): a reader starts at a place of the bytes and finds a value and the place after it,
 -- or refuses. "A field is judged as soon as its bytes are read, and a fault is placed at that field's first byte."
 use Rattle.std.specs.Prelude.{ℕ, zero, suc, ◌+◌, ◌*◌, ◌/◌, ◌%◌, ◌<◌, Bool, true, false, List, [], ◌∷◌, ◌++◌, ltb, eqb, length, get_or}
+use Rattle.model.specs.declared.Found.{Found}
 use Rattle.model.specs.Limits.{byte_values}
 use Rattle.model.specs.Refusals as Refusals
-use Rattle.model.specs.Refusals.{Result, ok, refuse}
+use Rattle.model.specs.Refusals.{Result, Ok, refuse}
 use Rattle.model.specs.Choice.{when}
 
 -- What a slice of bytes holds.
 abbrev pub AreBytes : List ℕ → Type 0
 AreBytes bytes = (i : ℕ) → get_or bytes i 0 < byte_values
 
--- What was read, and the place after it.
-pub record Found (A : Type 0) : Type 0 where
-  pub value : A
-  pub next : ℕ
-
 abbrev pub found : {A : Type 0} → A → ℕ → Result (Found A)
-found value next = ok (record { value = value; next = next })
+found value next = Ok (record { value = value; next = next })
 
 -- From the bytes and a place.
 abbrev pub Reader : Type 0 → Type 0
@@ -71,7 +67,7 @@ big_endian_bytes (suc size) n = big_endian_bytes size (n / byte_values) ++ n % b
 -- A field that has to pass a test; its fault is placed at its first byte.
 unfoldable pub judged : (ℕ → Bool) → (number : ℕ) → Reader ℕ → Reader ℕ
 judged test number read bytes at =
-    Refusals.◌>>=◌ (read bytes at) (λ f. when (test f.value) (λ _. ok f) (λ _. refuse number at))
+    Refusals.◌>>=◌ (read bytes at) (λ f. when (test f.value) (λ _. Ok f) (λ _. refuse number at))
 
 -- A field that is there only where its map bit stands, and else this value.
 abbrev pub optional : {A : Type 0} → Bool → A → Reader A → Reader A
@@ -89,4 +85,4 @@ times (suc n) read = do
 -- "bytes left over (first one)": what was read has to reach the end of the bytes.
 unfoldable pub whole : {A : Type 0} → (left : ℕ) → Reader A → List ℕ → Result A
 whole left read bytes =
-    Refusals.◌>>=◌ (read bytes 0) (λ f. when (eqb f.next (length bytes)) (λ _. ok f.value) (λ _. refuse left f.next))
+    Refusals.◌>>=◌ (read bytes 0) (λ f. when (eqb f.next (length bytes)) (λ _. Ok f.value) (λ _. refuse left f.next))

@@ -1,10 +1,10 @@
 -- The answer (document 01, from "An answer is an order, a ring or a refusal"): the whole check on byte lists and lent lists.
+use Rattle.model.specs.declared.Verdict as verdicts
+use Rattle.model.specs.declared.Verdict.TheVariants.{Order, Ring}
 use Rattle.std.specs.Prelude.{ℕ, ◌+◌, ◌*◌, ◌/◌, Bool, List, [], ◌∷◌, ◌++◌, map, leb, eqb, length, drop}
-use Rattle.model.specs.declared.Answer.{Answer}
-use Rattle.model.specs.declared.Answer.TheVariants.{Order, Ring, Refused}
 use Rattle.model.specs.declared.Item.{Item}
 use Rattle.model.specs.Limits.{byte_values}
-use Rattle.model.specs.Refusals.{Result, ok, refused, require, order_too_short, memory_too_short, ◌>>=◌}
+use Rattle.model.specs.Refusals.{Result, Ok, Err, require, order_too_short, memory_too_short, ◌>>=◌}
 use Rattle.model.specs.Choice.{select, numbers_from}
 use Rattle.model.specs.Bytes.{word_bytes}
 use Rattle.model.specs.Formats.{Format, today}
@@ -31,7 +31,7 @@ accept_in format program start recorded = do
   readings ← read_start P.header start
   items ← read_record_in format P.header recorded
   run ← replay P readings items
-  ok (record { program = P; readings = readings; run = run })
+  Ok (record { program = P; readings = readings; run = run })
 
 abbrev pub accept : (program start recorded : List ℕ) → Result Accepted
 accept = accept_in today
@@ -78,6 +78,10 @@ order_items groups events = map (λ e. e.item) (arranged groups events)
 unfoldable pub fill : {A : Type 0} → List A → List A → List A
 fill new old = new ++ drop (length new) old
 
+-- "An answer is an order, a ring or a refusal."
+abbrev pub Answer : Type 0
+Answer = Result verdicts.Verdict
+
 -- The answer, and what both lent lists hold at the end.
 pub record Outcome : Type 0 where
   pub answer : Answer
@@ -89,9 +93,12 @@ abbrev pub listed : Verdict → List ℕ
 listed (ordered groups) = groups
 listed (cyclic groups) = groups
 
+abbrev pub counted : Verdict → verdicts.Verdict
+counted (ordered groups) = Order (length groups)
+counted (cyclic groups) = Ring (length groups)
+
 abbrev pub answered : Verdict → Answer
-answered (ordered groups) = Order (length groups)
-answered (cyclic groups) = Ring (length groups)
+answered v = Ok (counted v)
 
 -- What is to be written, where both lists are long enough: "Then 14, then 15."
 pub record Verdicts : Type 0 where
@@ -106,7 +113,7 @@ check_result_in format program start recorded order_length cells_length = do
   let count : ℕ = a.program.header.ranks * a.program.header.cells
   _ ← require (leb groups order_length) order_too_short groups
   _ ← require (leb count cells_length) memory_too_short count
-  ok (record { verdict = verdict_on a.run; cells = last_cells a })
+  Ok (record { verdict = verdict_on a.run; cells = last_cells a })
 
 abbrev pub check_result : (program start recorded : List ℕ) → (order_length cells_length : ℕ) → Result Verdicts
 check_result = check_result_in today
@@ -114,8 +121,8 @@ check_result = check_result_in today
 -- "On a refusal nothing lent changes."
 unfoldable pub outcome : (order cells : List ℕ) → Result Verdicts → Outcome
 unfolding fill
-outcome order cells (refused r) = record { answer = Refused r; order = order; cells = cells }
-outcome order cells (ok v) =
+outcome order cells (Err r) = record { answer = Err r; order = order; cells = cells }
+outcome order cells (Ok v) =
     record { answer = answered v.verdict; order = fill (listed v.verdict) order; cells = fill v.cells cells }
 
 -- The whole check; `order` and `cells` are what the lent lists hold.
@@ -140,8 +147,8 @@ two_by_two (high ∷ low ∷ rest) = (high * byte_values + low) ∷ two_by_two r
 
 unfoldable pub outcome_bytes : (order cells : List ℕ) → Result Verdicts → Outcome
 unfolding fill entry_bytes
-outcome_bytes order cells (refused r) = record { answer = Refused r; order = order; cells = cells }
-outcome_bytes order cells (ok v) =
+outcome_bytes order cells (Err r) = record { answer = Err r; order = order; cells = cells }
+outcome_bytes order cells (Ok v) =
     record {
       answer = answered v.verdict;
       order = fill (entry_bytes (listed v.verdict)) order;

@@ -1,6 +1,5 @@
 -- Choices that compute one side only, small tests, and tables: what the other files are written with.
-use Rattle.std.specs.Prelude.{ℕ, ◌+◌, ◌/◌, ◌%◌, ◌^◌, Bool, true, false, ◌&&◌, List, [], ◌∷◌, leb, eqb}
-use Rattle.std.proofs.Math.Option.{Option, some, none}
+use Rattle.std.specs.Prelude.{ℕ, ◌+◌, ◌/◌, ◌%◌, ◌^◌, Bool, true, false, ◌&&◌, List, [], ◌∷◌, leb, eqb, Option, Some, None}
 
 -- The first where the test passes, the second where it fails. Only that side is computed.
 abbrev pub when {ℓ} : {A : Type ℓ} → Bool → (Unit {0} → A) → (Unit {0} → A) → A
@@ -16,9 +15,9 @@ abbrev pub bit : ℕ → ℕ → Bool
 bit i map = eqb (map / 2 ^ i % 2) 1
 
 -- What a table has under a number.
-unfoldable pub lookup {ℓ} : {A : Type ℓ} → ℕ → List (ℕ × A) → Option A
-lookup n [] = none
-lookup n (row ∷ rows) = when (eqb n row.0) (λ _. some row.1) (λ _. lookup n rows)
+unfoldable pub lookup : {A : Type 0} → ℕ → List (ℕ × A) → Option A
+lookup n [] = None
+lookup n (row ∷ rows) = when (eqb n row.0) (λ _. Some row.1) (λ _. lookup n rows)
 
 -- A number is one of a list.
 unfoldable pub member : ℕ → List ℕ → Bool

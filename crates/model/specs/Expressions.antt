@@ -1,6 +1,5 @@
 -- Expressions (document 01, "Expressions are tokens in prefix form, at most 15 each"): their form, their reader and their value.
-use Rattle.std.specs.Prelude.{ℕ, zero, suc, ◌+◌, ◌-◌, ◌*◌, Bool, true, false, List, [], ◌∷◌, ltb, leb, eqb}
-use Rattle.std.proofs.Math.Option.{Option, some, none}
+use Rattle.std.specs.Prelude.{ℕ, zero, suc, ◌+◌, ◌-◌, ◌*◌, Bool, true, false, List, [], ◌∷◌, ltb, leb, eqb, Option, Some, None}
 use Rattle.model.specs.Limits.{max_tokens, word_values}
 use Rattle.model.specs.Refusals.{program_length, program_range, program_form}
 use Rattle.model.specs.Choice.{when, lookup}
@@ -70,8 +69,8 @@ after_token registers operand left (operator_token o) = do
 -- "unknown token"
 unfoldable pub on_token : (registers : ℕ) → (operand : ℕ → Reader Counted) → (left at : ℕ) → Option Token → Reader Counted
 unfolding after_token
-on_token registers operand left at (some token) = after_token registers operand left token
-on_token registers operand left at none = fault program_form at
+on_token registers operand left at (Some token) = after_token registers operand left token
+on_token registers operand left at None = fault program_form at
 
 -- An expression of at most `left` tokens. Operands are at most `depth` deep; each takes a token, so at depth 0 none is left.
 unfoldable pub read_expression : (registers depth left : ℕ) → Reader Counted
@@ -97,29 +96,29 @@ truth false = 0
 
 -- "Values are unsigned 16-bit numbers."
 abbrev pub in_range : ℕ → Option ℕ
-in_range n = when (ltb n word_values) (λ _. some n) (λ _. none)
+in_range n = when (ltb n word_values) (λ _. Some n) (λ _. None)
 
 -- Document 02, #102: "A sum or product above 65,535 or a difference below 0 has no value any more".
 unfoldable pub operate : Operator → ℕ → ℕ → Option ℕ
 operate sum a b = in_range (a + b)
-operate difference a b = when (leb b a) (λ _. some (a - b)) (λ _. none)
+operate difference a b = when (leb b a) (λ _. Some (a - b)) (λ _. None)
 operate product a b = in_range (a * b)
-operate equal a b = some (truth (eqb a b))
-operate less a b = some (truth (ltb a b))
+operate equal a b = Some (truth (eqb a b))
+operate less a b = Some (truth (ltb a b))
 
 -- "and neither has an expression holding it", whatever the operator.
 unfoldable pub operated : Operator → Option ℕ → Option ℕ → Option ℕ
 unfolding operate
-operated o (some a) (some b) = operate o a b
-operated o (some a) none = none
-operated o none b = none
+operated o (Some a) (Some b) = operate o a b
+operated o (Some a) None = None
+operated o None b = None
 
 -- The value of an expression in a rank, by N and that rank's registers, if it has one.
 unfoldable pub evaluate : (ranks rank : ℕ) → (registers : ℕ → ℕ) → Expression → Option ℕ
 unfolding operated
-evaluate ranks rank registers (constant n) = some n
-evaluate ranks rank registers (register i) = some (registers i)
-evaluate ranks rank registers own_rank = some rank
-evaluate ranks rank registers rank_count = some ranks
+evaluate ranks rank registers (constant n) = Some n
+evaluate ranks rank registers (register i) = Some (registers i)
+evaluate ranks rank registers own_rank = Some rank
+evaluate ranks rank registers rank_count = Some ranks
 evaluate ranks rank registers (apply o a b) =
     operated o (evaluate ranks rank registers a) (evaluate ranks rank registers b)

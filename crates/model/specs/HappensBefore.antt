@@ -1,8 +1,6 @@
 -- Happens-before between groups (document 001, section 3; document 01: arrows), twice: as the relation that document 01 words, and as the function
 -- that draws it.
-use Rattle.std.specs.Prelude.{ℕ, ◌<◌, ◌≡◌, Bool, true, false, ◌&&◌, ◌||◌, List, [], ◌∷◌, ◌++◌, ◌⊎◌, eqb}
-use Rattle.std.proofs.Math.Option.{Option, some, none}
-use Rattle.std.proofs.Math.ListN.{get_elem?}
+use Rattle.std.specs.Prelude.{ℕ, ◌<◌, ◌≡◌, Bool, true, false, ◌&&◌, ◌||◌, List, [], ◌∷◌, ◌++◌, ◌⊎◌, eqb, Option, Some, None, slice_get}
 use Rattle.model.specs.Choice.{when}
 use Rattle.model.specs.ItemKinds.{is_command_kind}
 use Rattle.model.specs.Machine.{Access}
@@ -27,9 +25,9 @@ same_cell a b = same_address a.address b.address
 
 -- x writes the cell that y accesses.
 unfoldable pub overwrites : Option Access → Option Access → Bool
-overwrites none y = false
-overwrites (some a) none = false
-overwrites (some a) (some b) = same_cell a b && a.writes
+overwrites None y = false
+overwrites (Some a) None = false
+overwrites (Some a) (Some b) = same_cell a b && a.writes
 
 -- "at least one writes"
 abbrev pub either_writes : Access → Access → Bool
@@ -37,13 +35,13 @@ either_writes a b = a.writes || b.writes
 
 -- Both access one cell, and at least one writes.
 unfoldable pub conflict : Option Access → Option Access → Bool
-conflict none y = false
-conflict (some a) none = false
-conflict (some a) (some b) = same_cell a b && either_writes a b
+conflict None y = false
+conflict (Some a) None = false
+conflict (Some a) (Some b) = same_cell a b && either_writes a b
 
 -- The event with this number.
 abbrev pub At : List Event → ℕ → Event → Type 0
-At events i e = get_elem? events i ≡ some e
+At events i e = slice_get events i ≡ Some e
 
 -- x stands at i, y later at j, and no event between them passes the test.
 pub record Follows (events : List Event) (test : Event → Bool) (x y : Event) : Type 0 where

@@ -1,18 +1,16 @@
 -- The listing (document 01, "Slip and listing"): "Lines end in a line feed, fields in single spaces."
 use Rattle.std.specs.Prelude.{ℕ, zero, suc, ◌+◌, ◌/◌, ◌%◌, List, [], ◌∷◌, ◌++◌, ltb, leb, eqb, length}
-use Rattle.model.specs.declared.Answer.{Answer}
-use Rattle.model.specs.declared.Answer.TheVariants.{Refused}
 use Rattle.model.specs.declared.Kind.{Kind}
 use Rattle.model.specs.declared.Kind.TheVariants.{Load, Store, Assign, Assume, Read, Write, Popa, Popb, Bar}
 use Rattle.model.specs.declared.Listed.{Listed}
 use Rattle.model.specs.declared.Refusal.{Refusal}
-use Rattle.model.specs.Refusals.{Result, ok, refused, memory_too_short}
+use Rattle.model.specs.Refusals.{Result, Ok, Err, memory_too_short}
 use Rattle.model.specs.Choice.{when}
 use Rattle.model.specs.ItemKinds.{is_bar}
 use Rattle.model.specs.Formats.{Format, today}
 use Rattle.model.specs.Replay.{Event}
 use Rattle.model.specs.Orders.{Verdict, ordered, cyclic}
-use Rattle.model.specs.Checks.{Accepted, accept_in, verdict_on, listed, answered, rank_by_rank, fill}
+use Rattle.model.specs.Checks.{Accepted, accept_in, verdict_on, listed, answered, rank_by_rank, fill, Answer}
 
 -- The digits of a number in decimal; `size` is at least the number of digits less one.
 unfoldable pub digits : (size n : ℕ) → List ℕ
@@ -116,14 +114,14 @@ printed memory answer text =
     when (leb (length text) (length memory))
     (λ _. record { result = record { answer = answer; length = length text }; memory = fill text memory })
     (λ _. record {
-      result = record { answer = Refused (record { number = memory_too_short; place = length text }); length = 0 };
+      result = record { answer = Err (record { number = memory_too_short; place = length text }); length = 0 };
       memory = memory;
     })
 
 unfoldable pub printed_of : List ℕ → Result Accepted → Listing
 unfolding verdict_on listing_of refused_line printed
-printed_of memory (refused r) = printed memory (Refused r) (refused_line r)
-printed_of memory (ok a) =
+printed_of memory (Err r) = printed memory (Err r) (refused_line r)
+printed_of memory (Ok a) =
     let v : Verdict = verdict_on a.run in
     printed memory (answered v) (listing_of a v)
 

@@ -1,8 +1,6 @@
 -- What the other files say of any list: what stands in it, what stands before what, and numbers of which none stands twice or which rise.
-use Rattle.std.specs.Prelude.{ℕ, ◌<◌, ◌≡◌}
+use Rattle.std.specs.Prelude.{ℕ, ◌<◌, ◌≡◌, Some, slice_get}
 use mathlib.Core.List.{List, [], ◌∷◌, Memᴰ as Member}
-use Rattle.std.proofs.Math.Option.{some}
-use Rattle.std.proofs.Math.ListN.{get_elem?}
 
 -- a stands in l.
 infix 50 ◌∈◌
@@ -13,8 +11,8 @@ a ∈ l = Member a l
 pub record Precedes {A : Type 0} (l : List A) (x y : A) : Type 0 where
   pub i : ℕ
   pub j : ℕ
-  pub first : get_elem? l i ≡ some x
-  pub second : get_elem? l j ≡ some y
+  pub first : slice_get l i ≡ Some x
+  pub second : slice_get l j ≡ Some y
   pub before : i < j
 
 -- No number stands twice in the list.

@@ -1,8 +1,11 @@
 -- The machine (document 001, section 2.3; document 01, "The machine"): its state, and what a command asks for.
-use Rattle.std.specs.Prelude.{ℕ, Bool, true, false, ◌&&◌, List, [], ltb, eqb}
-use Rattle.std.proofs.Math.Option.{Option, some}
+use Rattle.model.specs.declared.Action.TheVariants.{Loads, Stores, Assigns, Passes, Issues, Meets}
+use Rattle.std.specs.Prelude.{ℕ, Bool, true, false, ◌&&◌, List, [], ltb, eqb, Option, Some}
 use Rattle.model.specs.declared.Address.{Address}
-use Rattle.model.specs.Refusals.{Result, ok, require, present, operand_range, assume_fails, no_value, ◌>>=◌}
+use Rattle.model.specs.declared.Access as Declared
+use Rattle.model.specs.declared.Action as DeclaredAction
+use Rattle.model.specs.declared.Transfer as DeclaredTransfer
+use Rattle.model.specs.Refusals.{Result, Ok, require, present, operand_range, assume_fails, no_value, ◌>>=◌}
 use Rattle.model.specs.Choice.{when, between}
 use Rattle.model.specs.Expressions.{Expression, evaluate}
 use Rattle.model.specs.Programs.{Program, Command, load, store, assign, assume, read, write, bar}
@@ -121,32 +124,23 @@ module _ {Mark : Type 0} (s : State Mark) where
         deliveries = put₂ s.deliveries rank queue entries;
       }
 
--- An access of a cell: what it reads or writes there. "Loads and popa read their cell; stores and popb write theirs."
-pub record Access : Type 0 where
-  pub writes : Bool
-  pub address : Address
-  pub value : ℕ
+-- An access of a cell. "Loads and popa read their cell; stores and popb write theirs."
+abbrev pub Access : Type 0
+Access = Declared.Access
 
 abbrev pub read_of : Address → ℕ → Option Access
-read_of a v = some (record { writes = false; address = a; value = v })
+read_of a v = Some (record { writes = false; address = a; value = v })
 
 abbrev pub write_of : Address → ℕ → Option Access
-write_of a v = some (record { writes = true; address = a; value = v })
+write_of a v = Some (record { writes = true; address = a; value = v })
 
 -- What a command does once its expressions are evaluated.
-pub data Action : Type 0 where
-  loads : (register cell : ℕ) → Action
-  stores : (cell value : ℕ) → Action
-  assigns : (register value : ℕ) → Action
-  passes : Action
-  issues : (queue remote : ℕ) (source destination : Address) → Action
-  meets : Action
+abbrev pub Action : Type 0
+Action = DeclaredAction.Action
 
 -- The operands of a transfer, in their ranges: "own cell, remote rank, remote cell or queue".
-pub record Transfer : Type 0 where
-  pub own : Address
-  pub remote : Address
-  pub queue : ℕ
+abbrev pub Transfer : Type 0
+Transfer = DeclaredTransfer.Transfer
 
 -- "Expressions use the rank's registers before the step."
 unfoldable pub value_of : Program → (rank : ℕ) → (registers : ℕ → ℕ) → Expression → Option ℕ
@@ -174,7 +168,7 @@ module _ (P : Program) (rank : ℕ) (registers : ℕ → ℕ) (item : ℕ) where
     _ ← ranged (between 1 P.header.ranks remote)
     _ ← ranged (ltb cell P.header.cells)
     _ ← ranged (ltb queue P.header.queues)
-    ok (record { own = address rank own; remote = address remote cell; queue = queue })
+    Ok (record { own = address rank own; remote = address remote cell; queue = queue })
 
   -- What a command asks for, by its rank's registers alone: 18 for any of its expressions, then 8 and 9.
   unfoldable pub action : Command → Result Action
@@ -182,25 +176,25 @@ module _ (P : Program) (rank : ℕ) (registers : ℕ → ℕ) (item : ℕ) where
   action (load x e1) = do
     cell ← value e1
     _ ← ranged (ltb cell P.header.cells)
-    ok (loads x cell)
+    Ok (Loads x cell)
   action (store e1 e2) = do
     cell ← value e1
     stored ← value e2
     _ ← ranged (ltb cell P.header.cells)
-    ok (stores cell stored)
+    Ok (Stores cell stored)
   action (assign x e1) = do
     assigned ← value e1
-    ok (assigns x assigned)
+    Ok (Assigns x assigned)
   action (assume e1) = do
     assumed ← value e1
     _ ← require (ltb 0 assumed) assume_fails item
-    ok passes
+    Ok Passes
   -- "read appends (e2, e3, own rank, e1)"
   action (read e1 e2 e3 e4) = do
     t ← transfer e1 e2 e3 e4
-    ok (issues t.queue t.remote.rank t.remote t.own)
+    Ok (Issues t.queue t.remote.rank t.remote t.own)
   -- "write appends (own rank, e1, e2, e3) to the rank's queue e4 of requests"
   action (write e1 e2 e3 e4) = do
     t ← transfer e1 e2 e3 e4
-    ok (issues t.queue t.remote.rank t.own t.remote)
-  action bar = ok meets
+    Ok (Issues t.queue t.remote.rank t.own t.remote)
+  action bar = Ok Meets

@@ -1,6 +1,5 @@
 -- The order (document 01), by the arrows alone, and the verdict: an order of all groups, or a ring of those that it cannot take.
-use Rattle.std.specs.Prelude.{ℕ, zero, suc, Bool, true, false, not, List, [], ◌∷◌, eqb}
-use Rattle.std.proofs.Math.Option.{Option, some, none}
+use Rattle.std.specs.Prelude.{ℕ, zero, suc, Bool, true, false, not, List, [], ◌∷◌, eqb, Option, Some, None}
 use Rattle.model.specs.Choice.{when, select, numbers_from}
 use Rattle.model.specs.HappensBefore.{Edge}
 use Rattle.model.specs.Rings.{ring}
@@ -13,8 +12,8 @@ has_edge_into g (e ∷ edges) = when (eqb e.to g) (λ _. true) (λ _. has_edge_i
 -- The first group of a list into which no arrow leads.
 unfoldable pub first_free : List Edge → List ℕ → Option ℕ
 unfolding has_edge_into
-first_free edges [] = none
-first_free edges (g ∷ groups) = when (has_edge_into g edges) (λ _. first_free edges groups) (λ _. some g)
+first_free edges [] = None
+first_free edges (g ∷ groups) = when (has_edge_into g edges) (λ _. first_free edges groups) (λ _. Some g)
 
 -- The groups but one; the arrows but those from one group.
 unfoldable pub without : ℕ → List ℕ → List ℕ
@@ -36,8 +35,8 @@ stuck unplaced edges = record { placed = []; unplaced = unplaced; edges = edges 
 -- A group that can be taken goes before what is placed once it is gone.
 unfoldable pub place_next : List ℕ → List Edge → (after : ℕ → Placing) → Option ℕ → Placing
 unfolding stuck
-place_next unplaced edges after none = stuck unplaced edges
-place_next unplaced edges after (some g) =
+place_next unplaced edges after None = stuck unplaced edges
+place_next unplaced edges after (Some g) =
     let rest : Placing = after g in
     record { placed = g ∷ rest.placed; unplaced = rest.unplaced; edges = rest.edges }
 

@@ -1,6 +1,5 @@
 -- Program bytes (document 01): "N, A, R, Q, S, T, one byte each, then T transitions"; and document 02's #107 on T.
-use Rattle.std.specs.Prelude.{ℕ, ◌+◌, ◌≤◌, Bool, List, [], ◌∷◌, ltb, leb, eqb}
-use Rattle.std.proofs.Math.Option.{Option, some, none}
+use Rattle.std.specs.Prelude.{ℕ, ◌+◌, ◌≤◌, Bool, List, [], ◌∷◌, ltb, leb, eqb, Option, Some, None}
 use Rattle.model.specs.declared.Header.{Header}
 use Rattle.model.specs.declared.Kind.{Kind}
 use Rattle.model.specs.declared.Kind.TheVariants.{Load, Store, Assign, Assume, Read, Write, Bar}
@@ -79,8 +78,8 @@ forms =
 
 -- "unknown kind, then map not the kind's": the map stands at `at`, the kind after it.
 unfoldable pub judged_form : (at map : ℕ) → Option CommandForm → Reader CommandForm
-judged_form at map none = fault program_form (at + 1)
-judged_form at map (some form) = when (eqb map form.map) (λ _. pure form) (λ _. fault program_form at)
+judged_form at map None = fault program_form (at + 1)
+judged_form at map (Some form) = when (eqb map form.map) (λ _. pure form) (λ _. fault program_form at)
 
 -- "A transition is a map byte, a kind byte, a from state, a to state, then .. the fields .."; "map and kind are both read before either is judged."
 unfoldable pub read_transition : Header → Reader Transition

@@ -1,10 +1,8 @@
 -- Record bytes (document 01): "a two-byte item count, 0..1,024, then the items"; and document 02's #107 on an item's transition
 -- and #108 on the remote rank that a pop names.
-use Rattle.std.specs.Prelude.{ℕ, ◌+◌, ◌*◌, Bool, true, false, ◌&&◌, List, ltb, leb}
+use Rattle.std.specs.Prelude.{ℕ, ◌+◌, ◌*◌, Bool, true, false, ◌&&◌, List, ltb, leb, Some, None, Option}
 use Rattle.model.specs.declared.Header.{Header}
 use Rattle.model.specs.declared.Kind.{Kind}
-use Rattle.model.specs.declared.Given.{Given}
-use Rattle.model.specs.declared.Given.TheVariants.{Value, Absent}
 use Rattle.model.specs.declared.Item.{Item}
 use Rattle.model.specs.Limits.{max_items, byte_values}
 use Rattle.model.specs.Refusals.{Result, record_length, record_range}
@@ -31,11 +29,11 @@ high_byte transitions low = do
   high ← field (λ h. ltb 0 h && ltb (h * byte_values + low) transitions)
   pure (high * byte_values + low)
 
-unfoldable pub given_value : Reader Given
+unfoldable pub given_value : Reader (Option ℕ)
 unfolding word
 given_value = do
   value ← word record_length
-  pure (Value value)
+  pure (Some value)
 
 -- "then the fields whose bit stands, in bit order: 0 rank, 1 transition, 2 queue, 3 place rank, 4 place cell (two bytes), 5 value (two bytes); the
 -- others are one byte"; with bit 6, "as its last field, the remote rank (one byte)", of which "one outside 1..N gets 5"; and with bit 7 "the
@@ -48,7 +46,7 @@ item_fields header map kind = do
   queue ← optional (bit 2 map) 0 (field (λ q. ltb q header.queues))
   place_rank ← optional (bit 3 map) 0 (field (between 1 header.ranks))
   place_cell ← optional (bit 4 map) 0 (judged (λ a. ltb a header.cells) record_range (word record_length))
-  given ← optional (bit 5 map) Absent given_value
+  given ← optional (bit 5 map) None given_value
   remote ← optional (bit 6 map) 0 (field (between 1 header.ranks))
   transition ← optional (bit 7 map) low (high_byte header.transitions low)
   pure

@@ -1,6 +1,7 @@
 -- Refusals (document 01's table, and document 02's "New numbers"): the numbers by name, and results that are a value or a refusal.
-use Rattle.std.specs.Prelude.{ℕ, Bool, true, false}
-use Rattle.std.proofs.Math.Option.{Option, some, none}
+use Rattle.std.specs.Prelude.{ℕ, Bool, true, false, Option, Some, None}
+use Rattle.std.specs.Prelude as prelude
+pub use Rattle.std.specs.Prelude.{Ok, Err}
 use Rattle.model.specs.declared.Refusal.{Refusal}
 
 -- "program ends early (place: its length), or bytes left over (first one)"
@@ -75,27 +76,26 @@ no_value = 18
 abbrev pub start_form : ℕ
 start_form = 19
 
--- A value, or why there is none.
-pub data Result (A : Type 0) : Type 0 where
-  ok : A → Result A
-  refused : Refusal → Result A
+-- A value, or why there is none: what the code's `Result<T, Refusal>` is.
+abbrev pub Result : Type 0 → Type 0
+Result A = prelude.Result A Refusal
 
 infixl 1 ◌>>=◌
 -- A refusal ends the work; a value is handed on.
 abbrev pub ◌>>=◌ : {A B : Type 0} → Result A → (A → Result B) → Result B
-◌>>=◌ (ok a) f = f a
-◌>>=◌ (refused r) f = refused r
+◌>>=◌ (Ok a) f = f a
+◌>>=◌ (Err r) f = Err r
 
 -- The refusal with this number, at this place.
 abbrev pub refuse : {A : Type 0} → ℕ → ℕ → Result A
-refuse number place = refused (record { number = number; place = place })
+refuse number place = Err (record { number = number; place = place })
 
 -- Nothing to say where the test passes, and the refusal where it fails.
 abbrev pub require : Bool → ℕ → ℕ → Result (Unit {0})
-require true number place = ok tt
+require true number place = Ok tt
 require false number place = refuse number place
 
 -- What is there, and the refusal where there is nothing.
 abbrev pub present : {A : Type 0} → Option A → ℕ → ℕ → Result A
-present (some a) number place = ok a
-present none number place = refuse number place
+present (Some a) number place = Ok a
+present None number place = refuse number place

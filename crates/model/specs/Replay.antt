@@ -1,17 +1,14 @@
 -- The replay (document 01, "Steps of the replay"): items in turn, from any start, each taken or refused in the order "12 first, for pops too, then
 -- 7, 8, 9, 11; a pop has 10 before 11", and document 02's 18 "after 7 and before 8 and 9".
-use Rattle.std.specs.Prelude.{ℕ, ◌+◌, ◌-◌, Bool, true, false, ◌&&◌, ◌||◌, List, [], ◌∷◌, ◌++◌, ltb, eqb, length}
-use Rattle.std.proofs.Math.Option.{Option, some, none}
-use Rattle.std.proofs.Math.ListN.{get_elem?}
+use Rattle.model.specs.declared.Action.TheVariants.{Loads, Stores, Assigns, Passes, Issues, Meets}
+use Rattle.std.specs.Prelude.{ℕ, ◌+◌, ◌-◌, Bool, true, false, ◌&&◌, ◌||◌, List, [], ◌∷◌, ◌++◌, ltb, eqb, length, Option, Some, None, slice_get}
 use Rattle.model.specs.declared.Address.{Address}
-use Rattle.model.specs.declared.Given.{Given}
-use Rattle.model.specs.declared.Given.TheVariants.{Value, Absent}
 use Rattle.model.specs.declared.Item.{Item}
-use Rattle.model.specs.Refusals.{Result, ok, refuse, require, wrong_transition, empty_queue, access_differs, barrier_row, queues_left, ◌>>=◌}
+use Rattle.model.specs.Refusals.{Result, Ok, refuse, require, wrong_transition, empty_queue, access_differs, barrier_row, queues_left, ◌>>=◌}
 use Rattle.model.specs.Choice.{when, numbers_from}
 use Rattle.model.specs.ItemKinds.{same_kind, is_bar, Part, command, fetch, delivery, part_of}
 use Rattle.model.specs.Programs.{Program, Transition, kind_of}
-use Rattle.model.specs.Machine.{State, Request, Delivery, Access, read_of, write_of, Start, initial, address, cell_at, put, move_to, set_register, set_cell, set_requests, set_deliveries, Action, loads, stores, assigns, passes, issues, meets, action}
+use Rattle.model.specs.Machine.{State, Request, Delivery, Access, read_of, write_of, Start, initial, address, cell_at, put, move_to, set_register, set_cell, set_requests, set_deliveries, Action, action}
 
 -- The command that put an entry into a queue: its place in its rank's sequence of command items, and its group.
 pub record Origin : Type 0 where
@@ -64,42 +61,42 @@ unfolding joins_row
 opened_after opened i = when (joins_row i) (λ _. opened) (λ _. opened + 1)
 
 -- "place or given value differs from the replay"; "An absent value is not checked."
-unfoldable pub agrees : Given → ℕ → Bool
-agrees (Value given) v = eqb given v
-agrees Absent v = true
+unfoldable pub agrees : Option ℕ → ℕ → Bool
+agrees (Some given) v = eqb given v
+agrees None v = true
 
 unfoldable pub agrees_with : Item → Option Access → Bool
 unfolding agrees
-agrees_with i none = true
-agrees_with i (some a) = same_address i.place a.address && agrees i.given a.value
+agrees_with i None = true
+agrees_with i (Some a) = same_address i.place a.address && agrees i.given a.value
 
 -- What a rank's action reads or writes, its queue, and what it does to the machine.
 unfoldable pub access_of : (rank : ℕ) → Action → (cells : ℕ → ℕ → ℕ) → Option Access
-access_of rank (loads x a) cells = read_of (address rank a) (cells rank a)
-access_of rank (stores a v) cells = write_of (address rank a) v
-access_of rank (assigns x v) cells = none
-access_of rank passes cells = none
-access_of rank (issues q remote source destination) cells = none
-access_of rank meets cells = none
+access_of rank (Loads x a) cells = read_of (address rank a) (cells rank a)
+access_of rank (Stores a v) cells = write_of (address rank a) v
+access_of rank (Assigns x v) cells = None
+access_of rank Passes cells = None
+access_of rank (Issues q remote source destination) cells = None
+access_of rank Meets cells = None
 
 unfoldable pub queue_of : Action → ℕ
-queue_of (loads x a) = 0
-queue_of (stores a v) = 0
-queue_of (assigns x v) = 0
-queue_of passes = 0
-queue_of (issues q remote source destination) = q
-queue_of meets = 0
+queue_of (Loads x a) = 0
+queue_of (Stores a v) = 0
+queue_of (Assigns x v) = 0
+queue_of Passes = 0
+queue_of (Issues q remote source destination) = q
+queue_of Meets = 0
 
 unfoldable pub perform : (rank : ℕ) → Origin → Action → State Origin → State Origin
 unfolding set_register set_cell set_requests
-perform rank origin (loads x a) s = set_register s rank x (s.cells rank a)
-perform rank origin (stores a v) s = set_cell s (address rank a) v
-perform rank origin (assigns x v) s = set_register s rank x v
-perform rank origin passes s = s
-perform rank origin (issues q remote source destination) s =
+perform rank origin (Loads x a) s = set_register s rank x (s.cells rank a)
+perform rank origin (Stores a v) s = set_cell s (address rank a) v
+perform rank origin (Assigns x v) s = set_register s rank x v
+perform rank origin Passes s = s
+perform rank origin (Issues q remote source destination) s =
     set_requests s rank q
     (s.requests rank q ++ record { remote = remote; source = source; destination = destination; mark = origin } ∷ [])
-perform rank origin meets s = s
+perform rank origin Meets s = s
 
 -- An item taken: the state after it, and its event.
 pub record Taken : Type 0 where
@@ -111,7 +108,7 @@ unfoldable pub agreed : (at : ℕ) → Taken → Result Taken
 unfolding agrees_with
 agreed at taken = do
   _ ← require (agrees_with taken.event.item taken.event.access) access_differs at
-  ok taken
+  Ok taken
 
 -- The mark of what a command item puts into a queue.
 abbrev pub origin_of : Replay → Item → Origin
@@ -141,8 +138,8 @@ after_command P s i target a =
 -- "A command item takes its transition from the rank's state."
 unfoldable pub take_transition : Program → Replay → (at : ℕ) → Item → Option Transition → Result Taken
 unfolding put kind_of action move_to row_after group_of opened_after access_of queue_of perform agreed
-take_transition P s at i none = refuse wrong_transition at
-take_transition P s at i (some t) = do
+take_transition P s at i None = refuse wrong_transition at
+take_transition P s at i (Some t) = do
   _ ← require (eqb t.source (s.machine.control i.rank) && same_kind (kind_of t.command) i.kind) wrong_transition at
   a ← action P i.rank (s.machine.registers i.rank) at t.command
   agreed at (after_command P s i t.target a)
@@ -159,12 +156,12 @@ delivery_for i b = is_for i.remote b.remote
 
 -- The entry that it takes, and the others as they stood: "Oldest means first appended to the requests or deliveries it is taken from."
 abbrev pub behind : {A : Type 0} → A → Option (A × List A) → Option (A × List A)
-behind first none = none
-behind first (some (a, rest)) = some (a, first ∷ rest)
+behind first None = None
+behind first (Some (a, rest)) = Some (a, first ∷ rest)
 
 unfoldable pub oldest : {A : Type 0} → (A → Bool) → List A → Option (A × List A)
-oldest among [] = none
-oldest among (a ∷ rest) = when (among a) (λ _. some (a, rest)) (λ _. behind a (oldest among rest))
+oldest among [] = None
+oldest among (a ∷ rest) = when (among a) (λ _. Some (a, rest)) (λ _. behind a (oldest among rest))
 
 -- A pop changes the machine alone.
 abbrev pub popped : Replay → State Origin → Item → Origin → Option Access → Taken
@@ -191,8 +188,8 @@ after_fetch s i a rest =
 -- and value to that queue's deliveries."
 unfoldable pub take_fetch : Replay → (at : ℕ) → Item → Option (Request Origin × List (Request Origin)) → Result Taken
 unfolding set_requests set_deliveries agreed
-take_fetch s at i none = refuse empty_queue at
-take_fetch s at i (some (a, rest)) = agreed at (after_fetch s i a rest)
+take_fetch s at i None = refuse empty_queue at
+take_fetch s at i (Some (a, rest)) = agreed at (after_fetch s i a rest)
 
 -- The state and the event after a delivery of this entry, which leaves the rest.
 abbrev pub after_delivery : Replay → Item → Delivery Origin → (rest : List (Delivery Origin)) → Taken
@@ -204,12 +201,12 @@ after_delivery s i b rest =
 -- "popb takes the head delivery and writes it", or the oldest for the rank that it names.
 unfoldable pub take_delivery : Replay → (at : ℕ) → Item → Option (Delivery Origin × List (Delivery Origin)) → Result Taken
 unfolding set_cell set_deliveries agreed
-take_delivery s at i none = refuse empty_queue at
-take_delivery s at i (some (b, rest)) = agreed at (after_delivery s i b rest)
+take_delivery s at i None = refuse empty_queue at
+take_delivery s at i (Some (b, rest)) = agreed at (after_delivery s i b rest)
 
 unfoldable pub take_part : Program → Replay → (at : ℕ) → Item → Part → Result Taken
 unfolding take_transition is_for oldest take_fetch take_delivery
-take_part P s at i command = take_transition P s at i (get_elem? P.transitions i.transition)
+take_part P s at i command = take_transition P s at i (slice_get P.transitions i.transition)
 take_part P s at i fetch = take_fetch s at i (oldest (request_for i) (s.machine.requests i.rank i.queue))
 take_part P s at i delivery = take_delivery s at i (oldest (delivery_for i) (s.machine.deliveries i.rank i.queue))
 
@@ -227,11 +224,11 @@ pub record Replayed : Type 0 where
 
 unfoldable pub take_items : Program → Replay → (at : ℕ) → List Item → Result Replayed
 unfolding take_item
-take_items P s at [] = ok (record { last = s; events = [] })
+take_items P s at [] = Ok (record { last = s; events = [] })
 take_items P s at (i ∷ items) = do
   taken ← take_item P s at i
   rest ← take_items P taken.state (at + 1) items
-  ok (record { last = rest.last; events = taken.event ∷ rest.events })
+  Ok (record { last = rest.last; events = taken.event ∷ rest.events })
 
 -- "At the end all queues are empty."
 unfoldable pub every : (ℕ → Bool) → List ℕ → Bool
@@ -255,7 +252,7 @@ unfolding quiet
 at_end P count r = do
   _ ← require (eqb r.last.row 0) barrier_row count
   _ ← require (quiet P r.last.machine) queues_left count
-  ok r
+  Ok r
 
 -- The replay of a list of items from a start.
 unfoldable pub replay : Program → Start → List Item → Result Replayed

@@ -1,7 +1,6 @@
 -- The ring (document 02, #111): "Return one with as few groups as any closed walk along arrows has. Of several, take the one whose numbers, listed
 -- from its lowest group, come first when compared place by place."
-use Rattle.std.specs.Prelude.{ℕ, zero, suc, min, ◌&&◌, List, [], ◌∷◌, eqb, leb, length}
-use Rattle.std.proofs.Math.Option.{Option, some, none}
+use Rattle.std.specs.Prelude.{ℕ, zero, suc, min, ◌&&◌, List, [], ◌∷◌, eqb, leb, length, Option, Some, None}
 use Rattle.model.specs.Choice.{when, member}
 use Rattle.model.specs.HappensBefore.{Edge}
 
@@ -20,8 +19,8 @@ coming_to (suc n) h edges = starts_into (coming_to n h edges) edges
 -- The fewest arrows that lead from g to h, if so many or more do; they are looked for at most `turns` times.
 unfoldable pub fewest_from : (turns n g h : ℕ) → List Edge → Option ℕ
 unfolding member coming_to
-fewest_from zero n g h edges = none
-fewest_from (suc turns) n g h edges = when (member g (coming_to n h edges)) (λ _. some n) (λ _. fewest_from turns (suc n) g h edges)
+fewest_from zero n g h edges = None
+fewest_from (suc turns) n g h edges = when (member g (coming_to n h edges)) (λ _. Some n) (λ _. fewest_from turns (suc n) g h edges)
 
 -- The fewest arrows, one or more, that lead from g to h, if no more than `most` do.
 unfoldable pub fewest : (most g h : ℕ) → List Edge → Option ℕ
@@ -35,32 +34,32 @@ pub record Closing : Type 0 where
 
 -- Of two the one with fewer arrows; if they have as many, the first.
 unfoldable pub nearer : (g : ℕ) → Option ℕ → Option Closing → Option Closing
-nearer g none later = later
-nearer g (some n) none = some (record { group = g; arrows = n })
-nearer g (some n) (some c) = when (leb n c.arrows) (λ _. some (record { group = g; arrows = n })) (λ _. some c)
+nearer g None later = later
+nearer g (Some n) None = Some (record { group = g; arrows = n })
+nearer g (Some n) (Some c) = when (leb n c.arrows) (λ _. Some (record { group = g; arrows = n })) (λ _. Some c)
 
 -- Of these groups the first of those from which the fewest arrows lead back.
 unfoldable pub closest : (most : ℕ) → (groups : List ℕ) → List Edge → Option Closing
 unfolding fewest nearer
-closest most [] edges = none
+closest most [] edges = None
 closest most (g ∷ groups) edges = nearer g (fewest most g g edges) (closest most groups edges)
 
 unfoldable pub lower : ℕ → Option ℕ → ℕ
-lower g none = g
-lower g (some h) = min g h
+lower g None = g
+lower g (Some h) = min g h
 
 -- The lowest of these groups to which an arrow leads from g.
 unfoldable pub lowest_next : (g : ℕ) → (layer : List ℕ) → List Edge → Option ℕ
 unfolding member lower
-lowest_next g layer [] = none
+lowest_next g layer [] = None
 lowest_next g layer (e ∷ edges) =
     when (eqb e.from g && member e.to layer)
-    (λ _. some (lower e.to (lowest_next g layer edges)))
+    (λ _. Some (lower e.to (lowest_next g layer edges)))
     (λ _. lowest_next g layer edges)
 
 unfoldable pub onward : (ℕ → List ℕ) → Option ℕ → List ℕ
-onward walk none = []
-onward walk (some h) = walk h
+onward walk None = []
+onward walk (Some h) = walk h
 
 -- Of the walks of n arrows from g to h the one that comes "first when compared place by place": each time the lowest next group from which the rest
 -- of the way can be gone. The h at its end is not listed.
@@ -71,8 +70,8 @@ first_walk (suc n) g h edges = g ∷ onward (λ k. first_walk n k h edges) (lowe
 
 unfoldable pub closed_walk : List Edge → Option Closing → List ℕ
 unfolding first_walk
-closed_walk edges none = []
-closed_walk edges (some c) = first_walk c.arrows c.group c.group edges
+closed_walk edges None = []
+closed_walk edges (Some c) = first_walk c.arrows c.group c.group edges
 
 -- The ring among these groups, which rise: so the first is the lowest. No walk of more arrows than there are groups is needed.
 unfoldable pub ring : (groups : List ℕ) → List Edge → List ℕ

@@ -2,14 +2,10 @@
 -- read) are written out. To the two pops, which take the head of a queue, document 02's #108 adds two that take "the oldest entry for that rank".
 -- Of #102, "the replay rules are read with these operators, which the source left open": a rule applies only where its expressions have values. The
 -- replay has no part in this file.
-use Rattle.std.specs.Prelude.{ℕ, ◌≤◌, ◌<◌, ◌≡◌, List, [], ◌∷◌, ◌++◌, map}
-use Rattle.std.proofs.Math.Option.{Option, some, none}
-use Rattle.std.proofs.Math.ListN.{get_elem?}
+use Rattle.std.specs.Prelude.{ℕ, ◌≤◌, ◌<◌, ◌≡◌, List, [], ◌∷◌, ◌++◌, map, Option, Some, None, slice_get}
 use Rattle.model.specs.declared.Address.{Address}
 use Rattle.model.specs.declared.Kind.{Kind}
 use Rattle.model.specs.declared.Kind.TheVariants.{Load, Store, Assign, Assume, Read, Write, Popa, Popb, Bar}
-use Rattle.model.specs.declared.Given.{Given}
-use Rattle.model.specs.declared.Given.TheVariants.{Value, Absent}
 use Rattle.model.specs.declared.Item.{Item}
 use Rattle.model.specs.Choice.{when, between, numbers_from, Each}
 use Rattle.model.specs.ItemKinds.{Part, fetch, delivery, part_of}
@@ -52,7 +48,7 @@ Queue P q = q < P.header.queues
 -- "given q₁ —cmd→ q₂ and current state s with st(r) = q₁": transition t of the program is that one.
 pub record Enabled (P : Program) (s : Bare) (r t : ℕ) (cmd : Command) (q₂ : ℕ) : Type 0 where
   pub rank : Rank P r
-  pub transition : get_elem? P.transitions t ≡ some (record { source = s.control r; target = q₂; command = cmd })
+  pub transition : slice_get P.transitions t ≡ Some (record { source = s.control r; target = q₂; command = cmd })
 
 -- "the oldest entry for that rank. .. Oldest means first appended": of the queue's entries a is for rank n, none before it is, and these others
 -- are left.
@@ -67,7 +63,7 @@ pub record OldestFor {A : Type 0} (remote : A → ℕ) (n : ℕ) (queue : List A
 module _ (P : Program) where
   -- ê = v: "the evaluation of expression e in memory configuration m", by the registers of rank r, has a value, and it is v.
   abbrev pub Evaluates : (r : ℕ) → (registers : ℕ → ℕ) → Expression → ℕ → Type 0
-  Evaluates r registers e v = value_of P r registers e ≡ some v
+  Evaluates r registers e v = value_of P r registers e ≡ Some v
 
   -- The operands of a transfer have values in their domains: own cell a, remote rank n, remote cell b and queue q.
   pub record Operands (r : ℕ) (registers : ℕ → ℕ) (e₁ e₂ e₃ e₄ : Expression) (a n b q : ℕ) : Type 0 where
@@ -115,22 +111,22 @@ module _ (P : Program) where
     assign : {s : Bare} {r t x q₂ v : ℕ} {e : Expression} → Enabled P s r t (Command.assign x e) q₂ →
         Evaluates r (s.registers r) e v →
         Step s
-        (command Assign r t none ∷ [])
+        (command Assign r t None ∷ [])
         (set_register (move_to s r q₂) r x v)
     assume : {s : Bare} {r t q₂ v : ℕ} {e : Expression} → Enabled P s r t (Command.assume e) q₂ →
         Evaluates r (s.registers r) e v → 0 < v →
         Step s
-        (command Assume r t none ∷ [])
+        (command Assume r t None ∷ [])
         (move_to s r q₂)
     read : {s : Bare} {r t q₂ a n b q : ℕ} {e₁ e₂ e₃ e₄ : Expression} → Enabled P s r t (Command.read e₁ e₂ e₃ e₄) q₂ →
         Operands r (s.registers r) e₁ e₂ e₃ e₄ a n b q →
         Step s
-        (command Read r t none ∷ [])
+        (command Read r t None ∷ [])
         (ask (move_to s r q₂) r q n (address n b) (address r a))
     write : {s : Bare} {r t q₂ a n b q : ℕ} {e₁ e₂ e₃ e₄ : Expression} → Enabled P s r t (Command.write e₁ e₂ e₃ e₄) q₂ →
         Operands r (s.registers r) e₁ e₂ e₃ e₄ a n b q →
         Step s
-        (command Write r t none ∷ [])
+        (command Write r t None ∷ [])
         (ask (move_to s r q₂) r q n (address r a) (address n b))
     popa : {s : Bare} {r q : ℕ} {a : Request (Unit {0})} {α : List (Request (Unit {0}))} → Rank P r → Queue P q → s.requests r q ≡ a ∷ α →
         Step s
@@ -152,7 +148,7 @@ module _ (P : Program) where
         (set_cell (set_deliveries s r q β) b.destination b.value)
     bar : {s : Bare} (t st' : ℕ → ℕ) → ((r : ℕ) → Rank P r → Enabled P s r (t r) Command.bar (st' r)) →
         Step s
-        (map (λ r. command Bar r (t r) none) (numbers_from 1 P.header.ranks))
+        (map (λ r. command Bar r (t r) None) (numbers_from 1 P.header.ranks))
         (move_all s st')
 
   -- Computations: steps one after the other, with their events.
@@ -166,13 +162,13 @@ module _ (P : Program) where
     pub deliveries : (r q : ℕ) → Rank P r → Queue P q → s.deliveries r q ≡ []
 
 -- "An item's place is the cell it reads or writes, its value what it reads or writes there"; "An absent value is not checked."
-abbrev pub GivenAs : ℕ → Given → Type 0
-GivenAs v (Value given) = given ≡ v
-GivenAs v Absent = Unit {0}
+abbrev pub GivenAs : ℕ → Option ℕ → Type 0
+GivenAs v (Some given) = given ≡ v
+GivenAs v None = Unit {0}
 
 abbrev pub PlacedAs : Option Access → Item → Type 0
-PlacedAs none i = Unit {0}
-PlacedAs (some a) i = (i.place ≡ a.address) × GivenAs a.value i.given
+PlacedAs None i = Unit {0}
+PlacedAs (Some a) i = (i.place ≡ a.address) × GivenAs a.value i.given
 
 -- A command item names its transition, a pop its queue and the remote rank whose oldest entry it takes, if it does.
 abbrev pub ChosenAs : Label → Part → Item → Type 0

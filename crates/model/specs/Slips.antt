@@ -2,7 +2,7 @@
 use Rattle.std.specs.Prelude.{ℕ, ◌^◌, List, [], ◌∷◌, ◌++◌, ltb}
 use Rattle.model.specs.Limits.{byte_ranks, max_items}
 use Rattle.model.specs.Refusals as Refusals
-use Rattle.model.specs.Refusals.{ok, require, slip_form}
+use Rattle.model.specs.Refusals.{Ok, require, slip_form}
 use Rattle.model.specs.Choice.{when, between, numbers_from}
 use Rattle.model.specs.Bytes.{Reader, ◌>>=◌, byte, word, word_bytes, judged, whole}
 use Rattle.model.specs.Marked.{marked_map, marked_bytes, read_marked}
@@ -29,7 +29,7 @@ slip_of a =
 unfoldable pub write_slip_in : Format → (program start recorded memory : List ℕ) → Lent
 unfolding accept_in slip_of lend
 write_slip_in format program start recorded memory =
-    lend memory (Refusals.◌>>=◌ (accept_in format program start recorded) (λ a. ok (slip_of a)))
+    lend memory (Refusals.◌>>=◌ (accept_in format program start recorded) (λ a. Ok (slip_of a)))
 
 abbrev pub write_slip : (program start recorded memory : List ℕ) → Lent
 write_slip = write_slip_in today

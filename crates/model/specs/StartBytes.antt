@@ -4,7 +4,7 @@ use Rattle.std.specs.Prelude.{ℕ, zero, suc, ◌+◌, ◌*◌, ◌^◌, List, [
 use Rattle.model.specs.declared.Header.{Header}
 use Rattle.model.specs.Limits.{map_size, max_value}
 use Rattle.model.specs.Refusals as Refusals
-use Rattle.model.specs.Refusals.{Result, ok, start_form}
+use Rattle.model.specs.Refusals.{Result, Ok, start_form}
 use Rattle.model.specs.Choice.{numbers_from}
 use Rattle.model.specs.Bytes.{Reader, ◌>>=◌, big_endian, big_endian_bytes, judged, times, whole}
 use Rattle.model.specs.Marked.{marked_map, marked_bytes, read_marked}
@@ -35,9 +35,9 @@ start_of readings (suc row) cell = get_or (get_or readings row []) cell 0
 -- "No bytes at all .. mean that all is 0 as before: only that start has a second form"; 19 "for a missing or left-over byte".
 unfoldable pub read_start : Header → (start : List ℕ) → Result Start
 unfolding zero_start whole start_reader start_of
-read_start header [] = ok zero_start
+read_start header [] = Ok zero_start
 read_start header (first ∷ rest) =
-    Refusals.◌>>=◌ (whole start_form (start_reader header) (first ∷ rest)) (λ readings. ok (start_of readings))
+    Refusals.◌>>=◌ (whole start_form (start_reader header) (first ∷ rest)) (λ readings. Ok (start_of readings))
 
 -- What a cell list says, "as the check fills it": rank 1's A cells first.
 unfoldable pub listed_start : (cells : ℕ) → List ℕ → Start

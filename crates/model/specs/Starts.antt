@@ -1,6 +1,6 @@
 -- Writer and reader of starts, as calls (document 02, #103): "Writer and reader are both needed, and one start has one form."
 use Rattle.std.specs.Prelude.{ℕ, ◌*◌, List, leb, length}
-use Rattle.model.specs.Refusals.{Result, ok, require, memory_too_short, ◌>>=◌}
+use Rattle.model.specs.Refusals.{Result, Ok, require, memory_too_short, ◌>>=◌}
 use Rattle.model.specs.Programs.{read_program_in, read_program}
 use Rattle.model.specs.StartBytes.{read_start, listed_start, start_bytes}
 use Rattle.model.specs.Checks.{rank_by_rank, two_by_two}
@@ -13,7 +13,7 @@ start_from program cells = do
   P ← read_program program
   let count : ℕ = P.header.ranks * P.header.cells
   _ ← require (leb count (length cells)) memory_too_short count
-  ok (start_bytes P.header (listed_start P.header.cells cells))
+  Ok (start_bytes P.header (listed_start P.header.cells cells))
 
 -- What the reader fills the list with: as the check does, the program is refused first, and then the start.
 unfoldable pub readings_in : (program start : List ℕ) → Result (List ℕ)
@@ -21,7 +21,7 @@ unfolding read_program_in read_start rank_by_rank
 readings_in program start = do
   P ← read_program program
   readings ← read_start P.header start
-  ok (rank_by_rank P.header.ranks P.header.cells readings)
+  Ok (rank_by_rank P.header.ranks P.header.cells readings)
 
 -- Both with a list of 16-bit numbers, and with a list of bytes.
 unfoldable pub write_start : (program cells memory : List ℕ) → Lent

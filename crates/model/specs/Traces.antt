@@ -1,15 +1,12 @@
 -- Same trace, and plain runs (document 01, "Groups and arrows"). The checker's answer has no part in this file.
-use Rattle.std.specs.Prelude.{ℕ, ◌<◌, ◌≤◌, ◌≡◌, Bool, true, false, ◌&&◌, List, [], ◌∷◌, map, ◌↔◌, eqb}
-use Rattle.std.proofs.Math.Option.{Option, some, none}
+use Rattle.std.specs.Prelude.{ℕ, ◌<◌, ◌≤◌, ◌≡◌, Bool, true, false, ◌&&◌, List, [], ◌∷◌, map, ◌↔◌, eqb, Option, Some, None}
 use Rattle.model.specs.declared.Address.{Address}
 use Rattle.model.specs.declared.Header.{Header}
 use Rattle.model.specs.declared.Kind.{Kind}
 use Rattle.model.specs.declared.Kind.TheVariants.{Popa, Popb}
-use Rattle.model.specs.declared.Given.{Given}
-use Rattle.model.specs.declared.Given.TheVariants.{Value, Absent}
 use Rattle.model.specs.declared.Item.{Item}
 use Rattle.model.specs.Limits.{word_values}
-use Rattle.model.specs.Refusals.{ok}
+use Rattle.model.specs.Refusals.{Ok}
 use Rattle.model.specs.Choice.{when, select, Each}
 use Rattle.model.specs.ItemKinds.{same_kind, is_transfer, has_place, Part, command, fetch, delivery, part_of}
 use Rattle.model.specs.Programs.{Program}
@@ -33,10 +30,10 @@ pub record Identified (x y : Event) : Type 0 where
 
 -- The cell of an access, and its value: "what it reads or writes, whether the item gives it or not".
 abbrev pub cell_of : Event → Option Address
-cell_of e = elim e.access [ none ↦ none | some a ↦ some a.address ]
+cell_of e = elim e.access [ None ↦ None | Some a ↦ Some a.address ]
 
 abbrev pub value_at : Event → Option ℕ
-value_at e = elim e.access [ none ↦ none | some a ↦ some a.value ]
+value_at e = elim e.access [ None ↦ None | Some a ↦ Some a.value ]
 
 -- "Same trace: each rank takes the same transitions in the same order, each access is at the same cell, and any two accesses of one cell, one of
 -- them a write, come in the same order."
@@ -57,9 +54,9 @@ ChosenIn h command i = i.transition < h.transitions
 ChosenIn h fetch i = (i.queue < h.queues) × (i.remote ≤ h.ranks)
 ChosenIn h delivery i = (i.queue < h.queues) × (i.remote ≤ h.ranks)
 
-abbrev pub GivenIn : Given → Type 0
-GivenIn (Value v) = v < word_values
-GivenIn Absent = Unit {0}
+abbrev pub GivenIn : Option ℕ → Type 0
+GivenIn (Some v) = v < word_values
+GivenIn None = Unit {0}
 
 -- "items as a record has them": the fields of an item's kind are in their ranges.
 pub record InRecord (h : Header) (i : Item) : Type 0 where
@@ -90,5 +87,5 @@ transfers_together (e ∷ events) =
 -- is a row, and that any other command is one item, is the replay's.
 pub record SerialRun (P : Program) (start : Start) (items : List Item) (run : Replayed) : Type 0 where
   pub in_record : Each (InRecord P.header) items
-  pub replayed : replay P start items ≡ ok run
+  pub replayed : replay P start items ≡ Ok run
   pub together : transfers_together run.events ≡ true

@@ -61,20 +61,28 @@ pub struct Refusal {
     pub place: usize,
 }
 
-// What the whole check answers: the count of groups listed, or the refusal.
+// What was read of bytes, and the place after it. The place stands first, so that the words of what was read, and not halves of them, lie where a
+// refusal's do.
 #[derive(Clone, Copy)]
-pub enum Answer {
-    Order(usize),
-    Ring(usize),
-    Refused(Refusal),
+pub struct Found<T> {
+    pub next: usize,
+    pub value: T,
 }
 
-// What writers and readers of slips and starts answer: how many entries of the lent memory they filled, or the refusal.
+pub type Read<T> = Result<Found<T>, Refusal>;
+
+// What an accepted record comes to, by the count of groups listed.
 #[derive(Clone, Copy)]
-pub enum Filled {
-    Entries(usize),
-    Refused(Refusal),
+pub enum Verdict {
+    Order(usize),
+    Ring(usize),
 }
+
+// "An answer is an order, a ring or a refusal."
+pub type Answer = Result<Verdict, Refusal>;
+
+// What writers and readers of slips and starts answer: how many entries of the lent memory they filled, or the refusal.
+pub type Filled = Result<usize, Refusal>;
 
 // What the listing answers: the check's verdict or refusal, and how many bytes it wrote.
 #[derive(Clone, Copy)]
@@ -95,7 +103,7 @@ pub struct Header {
 }
 
 // The nine kinds of items; all but the pops are kinds of transitions too.
-#[derive(Clone, Copy)]
+#[derive(Clone, Copy, PartialEq, Eq)]
 pub enum Kind {
     Load,
     Store,
@@ -108,26 +116,62 @@ pub enum Kind {
     Bar,
 }
 
-// What an item's map byte and kind byte say together: the kind, or which of the two is to blame.
+// Which of an item's kind byte and map byte is to blame.
 #[derive(Clone, Copy)]
-pub enum ItemForm {
-    Good(Kind),
+pub enum FormFault {
     UnknownKind,
     WrongMap,
 }
 
+// What an item's map byte and kind byte say together.
+pub type ItemForm = Result<Kind, FormFault>;
+
 // A cell of the global address space: the rank that holds it, and its number there.
-#[derive(Clone, Copy)]
+#[derive(Clone, Copy, PartialEq, Eq)]
 pub struct Address {
     pub rank: u16,
     pub cell: u16,
 }
 
-// The value that an item may give for what it reads or writes.
+// An access of a cell: what it reads or writes there. "Loads and popa read their cell; stores and popb write theirs."
 #[derive(Clone, Copy)]
-pub enum Given {
-    Value(u16),
-    Absent,
+pub struct Access {
+    pub writes: bool,
+    pub address: Address,
+    pub value: u16,
+}
+
+// What a command does once its expressions are evaluated and its operands are in their ranges.
+#[derive(Clone, Copy)]
+pub enum Action {
+    Loads {
+        register: u16,
+        cell: u16,
+    },
+    Stores {
+        cell: u16,
+        value: u16,
+    },
+    Assigns {
+        register: u16,
+        value: u16,
+    },
+    Passes,
+    Issues {
+        queue: u16,
+        remote: u16,
+        source: Address,
+        destination: Address,
+    },
+    Meets,
+}
+
+// The operands of a transfer, in their ranges: the two cells, and the queue of requests.
+#[derive(Clone, Copy)]
+pub struct Transfer {
+    pub own: Address,
+    pub remote: Address,
+    pub queue: u16,
 }
 
 // An item of a record. A field that the item's map leaves out is 0; so a pop whose `remote` is 0 names no remote rank. Four numbers, then place and
@@ -139,6 +183,7 @@ pub struct Item {
     pub queue: u16,
     pub remote: u16,
     pub place: Address,
-    pub given: Given,
+    // The value that an item may give for what it reads or writes.
+    pub given: Option<u16>,
     pub kind: Kind,
 }

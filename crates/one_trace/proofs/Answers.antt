@@ -1,10 +1,9 @@
 -- What the check answers to a call with long enough memory on an accepted record: the verdict on its run, the groups of that, and the last cells.
+use Rattle.std.specs.Prelude.{Some, slice_get}
 use Prim.Native.Nat.{ℕ, ◌+◌, ◌*◌, ◌-◌}
 use mathlib.Core.Path.{◌≡◌, sym, ap, ◌∙◌}
 use mathlib.Core.List.{List}
-use mathlib.Core.Option.{some}
-use lib.ListN.{get_elem?}
-use Rattle.model.specs.Refusals.{ok}
+use Rattle.model.specs.Refusals.{Ok}
 use Rattle.model.specs.Rules.{Rank, Cell}
 use Rattle.model.specs.Checks.{Accepted, verdict_on, last_cells, Outcome, listed, answered, check_in, check_bytes_in, fill}
 use Rattle.demands.specs.Entries.{Form, numbers, bytes, entries, first_entries}
@@ -22,7 +21,7 @@ checked_is numbers program start recorded order cells = sym (numbers_written_lem
 checked_is bytes program start recorded order cells = sym (bytes_written order cells (result_in bytes program start recorded order cells))
 
 module _ {program start recorded : List ℕ} {a : Accepted} (call : Call program start recorded a) where
-  outcome_is : outcome_of call ≡ outcome_in call.form call.order call.cells (ok (verdicts_of a))
+  outcome_is : outcome_of call ≡ outcome_in call.form call.order call.cells (Ok (verdicts_of a))
   outcome_is =
       checked_is call.form program start recorded call.order call.cells ∙
       ap (outcome_in call.form call.order call.cells)
@@ -44,7 +43,7 @@ module _ {program start recorded : List ℕ} {a : Accepted} (call : Call program
       ap (λ n. first_entries call.form n (fill (written call.form (last_cells a)) call.cells)) (sym (last_cells_length a)) ∙
       filled_reads call.form (last_cells a) call.cells
 
-  pub entry_is : (rank cell : ℕ) → Rank a.program rank → Cell a.program cell → entry_of call rank cell ≡ some (a.run.last.machine.cells rank cell)
+  pub entry_is : (rank cell : ℕ) → Rank a.program rank → Cell a.program cell → entry_of call rank cell ≡ Some (a.run.last.machine.cells rank cell)
   entry_is rank cell r c =
-      ap (λ (o : Outcome). get_elem? (entries call.form o.cells) ((rank - 1) * a.program.header.cells + cell)) outcome_is ∙
+      ap (λ (o : Outcome). slice_get (entries call.form o.cells) ((rank - 1) * a.program.header.cells + cell)) outcome_is ∙
       cell_read call.form call.cells a rank cell r c

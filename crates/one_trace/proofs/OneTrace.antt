@@ -1,13 +1,13 @@
 -- The claims hold of every accepted record. Its bytes are read as items, and the theorems of items are said of what is written of them; what the
 -- check answers goes by the run alone.
+use Rattle.model.specs.declared.Verdict.TheVariants.{Order, Ring}
+use Rattle.std.specs.Prelude.{Some}
 use Prim.Native.Nat.{ℕ, suc, ◌≤◌}
 use mathlib.Core.Path.{◌≡◌, refl, sym, ap, ap₂, subst, ◌∙◌, fun_ext}
 use mathlib.Core.List.{List, [], ◌∷◌, ◌++◌, append_assoc}
-use mathlib.Core.Option.{some}
 use lib.ListN.{length}
-use Rattle.model.specs.declared.Answer.TheVariants.{Order, Ring}
 use Rattle.model.specs.declared.Item.{Item}
-use Rattle.model.specs.Refusals.{ok}
+use Rattle.model.specs.Refusals.{Ok}
 use Rattle.model.specs.Choice.{Each, numbers_from}
 use Rattle.model.specs.Marked.{marked_map, marked_bytes}
 use Rattle.model.specs.Bytes.{AreBytes, word_bytes}
@@ -42,8 +42,8 @@ use Rattle.one_trace.proofs.Answers.{answer_is, groups_are, cells_are, entry_is}
 
 -- Verdicts of one kind are answered alike.
 answered_alike : {v w : Verdict} → Verdicts.SameKind v w → SameKind (answered v) (answered w)
-answered_alike (Verdicts.orders l m long) = subst (λ n. SameKind (Order (length l)) (Order n)) long (orders (length l))
-answered_alike (Verdicts.rings l m long) = subst (λ n. SameKind (Ring (length l)) (Ring n)) long (rings (length l))
+answered_alike (Verdicts.orders l m long) = subst (λ n. SameKind (Ok (Order (length l))) (Ok (Order n))) long (orders (length l))
+answered_alike (Verdicts.rings l m long) = subst (λ n. SameKind (Ok (Ring (length l))) (Ok (Ring n))) long (rings (length l))
 
 -- A slip goes by the counts of commands.
 same_slip : (a : Accepted) (readings : Start) (run : Replayed) → ((rank : ℕ) → a.run.last.taken rank ≡ run.last.taken rank) →
@@ -126,11 +126,11 @@ module _ (program start recorded : List ℕ) (a : Accepted) (bound : AreBytes re
       trace)
 
   -- The record's items, as they are read, are what is replayed.
-  replayed_as : (items : List Item) → read_record a.program.header recorded ≡ ok items → replay a.program a.readings items ≡ ok a.run
+  replayed_as : (items : List Item) → read_record a.program.header recorded ≡ Ok items → replay a.program a.readings items ≡ Ok a.run
   replayed_as items read =
-      subst (λ l. replay a.program a.readings l ≡ ok a.run) (ok_injective (sym parts.record_read_lem ∙ read)) parts.replayed
+      subst (λ l. replay a.program a.readings l ≡ Ok a.run) (ok_injective (sym parts.record_read_lem ∙ read)) parts.replayed
 
-  module _ (before : List Item) (x y : Item) (after : List Item) (read : read_record a.program.header recorded ≡ ok (before ++ x ∷ y ∷ after))
+  module _ (before : List Item) (x y : Item) (after : List Item) (read : read_record a.program.header recorded ≡ Ok (before ++ x ∷ y ∷ after))
       (may : Exchangeable a.run.events (length before) x y) where
     forms : RecordForms a.program.header
     forms = record_forms a.program.header (header_fits program parts.program_read_lem)
@@ -142,7 +142,7 @@ module _ (program start recorded : List ℕ) (a : Accepted) (bound : AreBytes re
     writable' =
         record { few = rw (as_many before x y after) writable.few; each = Items.each_exchanged before x y after writable.each }
 
-    replayed : replay a.program a.readings (before ++ x ∷ y ∷ after) ≡ ok a.run
+    replayed : replay a.program a.readings (before ++ x ∷ y ∷ after) ≡ Ok a.run
     replayed = replayed_as (before ++ x ∷ y ∷ after) read
 
     in_record : {items : List Item} → Each (Writable a.program.header) items → Each (InRecord a.program.header) items
@@ -160,7 +160,7 @@ module _ (program start recorded : List ℕ) (a : Accepted) (bound : AreBytes re
           stands = (forms.written_so recorded (before ++ x ∷ y ∷ after) bound read).0 ∙ told_apart before x y after;
           are_bytes = subst AreBytes written (forms.records.are_bytes (before ++ y ∷ x ∷ after) writable');
           read =
-              subst (λ l. read_record a.program.header l ≡ ok (before ++ y ∷ x ∷ after)) written
+              subst (λ l. read_record a.program.header l ≡ Ok (before ++ y ∷ x ∷ after)) written
               (forms.read_back (before ++ y ∷ x ∷ after) writable');
           too =
               record {
@@ -176,8 +176,8 @@ module _ (program start recorded : List ℕ) (a : Accepted) (bound : AreBytes re
               };
         }
 
-  any_merge : (items others : List Item) → read_record a.program.header recorded ≡ ok items → (other : List ℕ) → AreBytes other →
-      read_record a.program.header other ≡ ok others → SameLogs items others → AcceptedToo program start recorded other a
+  any_merge : (items others : List Item) → read_record a.program.header recorded ≡ Ok items → (other : List ℕ) → AreBytes other →
+      read_record a.program.header other ≡ Ok others → SameLogs items others → AcceptedToo program start recorded other a
   unfolding accept_in
   any_merge items others read other bound' read' logs =
       let each = read_in_record a.program.header recorded bound read in
@@ -192,7 +192,7 @@ module _ (program start recorded : List ℕ) (a : Accepted) (bound : AreBytes re
             (record { items = others; in_record = m.in_record; replayed = m.replayed }) m.trace;
       }
 
-  other_start : (other : List ℕ) (readings : Start) → read_start a.program.header other ≡ ok readings →
+  other_start : (other : List ℕ) (readings : Start) → read_start a.program.header other ≡ Ok readings →
       DifferOffAccesses a.readings readings a.run.events → FromOther program start other recorded a readings
   unfolding accept_in verdict_on
   other_start other readings read differ =
@@ -204,10 +204,10 @@ module _ (program start recorded : List ℕ) (a : Accepted) (bound : AreBytes re
         accepted = too;
         answer = λ k m. answer_is k ∙ ap answered same ∙ sym (answer_is m);
         groups = λ k m. groups_are k ∙ ap listed same ∙ sym (groups_are m);
-        listed_cells = λ k m rank cell r c agree. entry_is k rank cell r c ∙ ap some (f.cells rank cell agree) ∙ sym (entry_is m rank cell r c);
+        listed_cells = λ k m rank cell r c agree. entry_is k rank cell r c ∙ ap Some (f.cells rank cell agree) ∙ sym (entry_is m rank cell r c);
         own_cells = λ m rank cell r c differs.
             entry_is m rank cell r c ∙
-            ap some
+            ap Some
             ((facts_of (recorded_run program other recorded (another a readings f.too) bound too)).cells_end rank cell ∙
             never_accessed readings f.too.events rank cell (subst (λ events. ¬ (Accesses events rank cell)) f.events (differ rank cell differs)));
         registers = f.registers;

@@ -1,12 +1,9 @@
 -- "One trace, one page" (document 02, #112): its three claims, of program, start and record bytes, and of what the check answers with long enough
 -- memory, whichever form the lent lists have; and what follows for whoever merges logs.
-use Rattle.std.specs.Prelude.{ℕ, ◌+◌, ◌*◌, ◌-◌, ◌≡◌, List, ◌∷◌, ◌++◌, length}
-use Rattle.std.proofs.Math.Option.{Option, some}
-use Rattle.std.proofs.Math.ListN.{get_elem?}
-use Rattle.model.specs.declared.Answer.{Answer}
-use Rattle.model.specs.declared.Answer.TheVariants.{Order, Ring}
+use Rattle.model.specs.declared.Verdict.TheVariants.{Order, Ring}
+use Rattle.std.specs.Prelude.{ℕ, ◌+◌, ◌*◌, ◌-◌, ◌≡◌, List, ◌∷◌, ◌++◌, length, Option, Some, slice_get}
 use Rattle.model.specs.declared.Item.{Item}
-use Rattle.model.specs.Refusals.{ok}
+use Rattle.model.specs.Refusals.{Ok}
 use Rattle.model.specs.Bytes.{AreBytes, word_bytes}
 use Rattle.model.specs.Records.{read_record}
 use Rattle.model.specs.Machine.{Start}
@@ -14,7 +11,7 @@ use Rattle.model.specs.StartBytes.{read_start}
 use Rattle.model.specs.Rules.{Rank, Cell}
 use Rattle.model.specs.Replay.{Replayed}
 use Rattle.model.specs.Traces.{SameTrace}
-use Rattle.model.specs.Checks.{Accepted, Outcome, check, check_bytes}
+use Rattle.model.specs.Checks.{Accepted, Outcome, check, check_bytes, Answer}
 use Rattle.model.specs.Slips.{slip_of}
 use Rattle.record_bytes.specs.RecordBytes.{item_bytes, items_bytes}
 use Rattle.traces.specs.Claims.{Exchangeable, DifferOffAccesses, SameLogs}
@@ -45,12 +42,12 @@ module _ {program start recorded : List ℕ} {a : Accepted} (call : Call program
   cells_in = first_entries call.form (cells_of a) outcome_of.cells
 
   abbrev pub entry_of : (rank cell : ℕ) → Option ℕ
-  entry_of rank cell = get_elem? (entries call.form outcome_of.cells) ((rank - 1) * a.program.header.cells + cell)
+  entry_of rank cell = slice_get (entries call.form outcome_of.cells) ((rank - 1) * a.program.header.cells + cell)
 
 -- "the same kind of answer": an order or a ring, and of as many groups.
 pub data SameKind : Answer → Answer → Type 0 where
-  orders : (n : ℕ) → SameKind (Order n) (Order n)
-  rings : (n : ℕ) → SameKind (Ring n) (Ring n)
+  orders : (n : ℕ) → SameKind (Ok (Order n)) (Ok (Order n))
+  rings : (n : ℕ) → SameKind (Ok (Ring n)) (Ok (Ring n))
 
 -- Two accepted records of one program and start "get, with long enough memory, the same kind of answer and end with the same cells and registers". They
 -- have the same slip, too.
@@ -82,7 +79,7 @@ pub record Exchanged (program start recorded : List ℕ) (a : Accepted) (before 
   pub count : ℕ
   pub stands : recorded ≡ neighbours count before x y after
   pub are_bytes : AreBytes (neighbours count before y x after)
-  pub read : read_record a.program.header (neighbours count before y x after) ≡ ok (before ++ y ∷ x ∷ after)
+  pub read : read_record a.program.header (neighbours count before y x after) ≡ Ok (before ++ y ∷ x ∷ after)
   pub too : AcceptedToo program start recorded (neighbours count before y x after) a
 
 -- From the other start, which has these readings, the record is accepted "with the same order or ring, and all other cells agree at the end": those in
@@ -98,7 +95,7 @@ pub record FromOther (program start other recorded : List ℕ) (a : Accepted) (r
       entry_of k rank cell ≡ entry_of m rank cell
   pub own_cells : (m : Call program other recorded (another a readings run)) →
       (rank cell : ℕ) → Rank a.program rank → Cell a.program cell → ¬ (a.readings rank cell ≡ readings rank cell) →
-      entry_of m rank cell ≡ some (readings rank cell)
+      entry_of m rank cell ≡ Some (readings rank cell)
   pub registers : (rank : ℕ) → a.run.last.machine.registers rank ≡ run.last.machine.registers rank
   pub slip : slip_of a ≡ slip_of (another a readings run)
 
@@ -110,13 +107,13 @@ pub record OneTraceOnePage (program start recorded : List ℕ) (a : Accepted) : 
       SameTrace a.run.events b.run.events → SameEnd program start recorded other a b
   -- "exchanging two neighbouring items of different ranks, neither a bar, whose accesses do not conflict, leaves the record accepted and its trace the
   -- same"
-  pub exchange : (before : List Item) (x y : Item) (after : List Item) → read_record a.program.header recorded ≡ ok (before ++ x ∷ y ∷ after) →
+  pub exchange : (before : List Item) (x y : Item) (after : List Item) → read_record a.program.header recorded ≡ Ok (before ++ x ∷ y ∷ after) →
       Exchangeable a.run.events (length before) x y → Exchanged program start recorded a before x y after
   -- "if two starts differ only in cells that a record accepted from one of them never accesses, it is accepted from the other too, with the same order
   -- or ring, and all other cells agree at the end"
-  pub other_start : (other : List ℕ) (readings : Start) → read_start a.program.header other ≡ ok readings →
+  pub other_start : (other : List ℕ) (readings : Start) → read_start a.program.header other ≡ Ok readings →
       DifferOffAccesses a.readings readings a.run.events → FromOther program start other recorded a readings
   -- Any record that is another merge of the same logs is as good: each rank's items and the rows stand in the same order, and so do each cell's accesses
   -- where one of two writes.
-  pub any_merge : (items others : List Item) → read_record a.program.header recorded ≡ ok items → (other : List ℕ) → AreBytes other →
-      read_record a.program.header other ≡ ok others → SameLogs items others → AcceptedToo program start recorded other a
+  pub any_merge : (items others : List Item) → read_record a.program.header recorded ≡ Ok items → (other : List ℕ) → AreBytes other →
+      read_record a.program.header other ≡ Ok others → SameLogs items others → AcceptedToo program start recorded other a

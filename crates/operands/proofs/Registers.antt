@@ -1,9 +1,11 @@
 -- The register that a transition of a program names is one that the arrays have.
+use Rattle.model.specs.declared.Found.{Found}
+use Rattle.std.specs.Prelude.{Option, Some, None}
+use Rattle.model.proofs.Options.{none-ne-some, some-injective}
 use Prim.Native.Nat.{ℕ, ◌≤◌, ◌<◌}
 use mathlib.Core.Path.{◌≡◌, refl, subst}
 use mathlib.Core.Bool.{Bool, true, false}
 use mathlib.Core.List.{List, [], ◌∷◌}
-use mathlib.Core.Option.{Option, some, none, none-ne-some, some-injective}
 use native.Mathlib.Omega.{arith}
 use lib.Dec.{ltb, eqb}
 use borrow.Author.Tests.{ltb-true}
@@ -11,7 +13,7 @@ use Rattle.model.specs.declared.Header.{Header}
 use Rattle.model.specs.Limits.{max_registers}
 use Rattle.model.specs.Refusals.{program_length, program_range}
 use Rattle.model.specs.Choice.{lookup, bit, Each, all, one}
-use Rattle.model.specs.Bytes.{Found, Reader, found, byte, judged, optional}
+use Rattle.model.specs.Bytes.{Reader, found, byte, judged, optional}
 use Rattle.model.specs.Expressions.{constant, expression}
 use Rattle.model.specs.Programs.{Command, load, store, assign, assume, read, write, bar}
 use Rattle.model.specs.Programs.{Transition, Fields, CommandForm, forms, judged_form, read_fields, read_transition}
@@ -42,7 +44,7 @@ unfolding forms
 all_make =
     one (λ f h. h) (one (λ f h. tt) (one (λ f h. h) (one (λ f h. tt) (one (λ f h. tt) (one (λ f h. tt) (one (λ f h. tt) all))))))
 
-row_makes : (kind : ℕ) (rows : List (ℕ × CommandForm)) {form : CommandForm} → Each Makes rows → lookup kind rows ≡ some form → Makes (kind, form)
+row_makes : (kind : ℕ) (rows : List (ℕ × CommandForm)) {form : CommandForm} → Each Makes rows → lookup kind rows ≡ Some form → Makes (kind, form)
 unfolding lookup
 row_makes kind [] all h = absurd (none-ne-some _ h)
 row_makes kind (row ∷ rows) {form} (one makes rest) h =
@@ -71,8 +73,8 @@ module _ (bytes : List ℕ) (header : Header) (few : header.registers ≤ max_re
   form_finds : (at map kind : ℕ) (row : Option CommandForm) → lookup kind forms ≡ row →
       Finds bytes (judged_form at map row) (λ form. Makes (kind, form))
   unfolding judged_form
-  form_finds at map kind none e = record { holds = λ next f h. absurd (refused≢ok h) }
-  form_finds at map kind (some form) e =
+  form_finds at map kind None e = record { holds = λ next f h. absurd (refused≢ok h) }
+  form_finds at map kind (Some form) e =
       record {
         holds =
             λ next f h.

@@ -1,15 +1,15 @@
 -- Chains of edges. Of two events that conflict, or that are commands of one rank, the first one's group reaches the second one's along edges: if no
 -- event between them stops the search the edge is there, or the groups are one; if one does, it stands in the same relation to both, and the two
 -- parts are shorter.
+use Rattle.std.specs.Prelude.{Option, Some, None, slice_get}
+use Rattle.model.proofs.Options.{some-injective, none-ne-some}
 use Prim.Native.Nat.{ℕ, zero, suc, ◌+◌, ◌≤◌, ◌<◌}
 use mathlib.Core.Path.{◌≡◌, refl, sym, ap, ◌∙◌}
 use mathlib.Core.Bool.{Bool, true, false}
 use mathlib.Core.List.{List}
 use mathlib.Core.Logic.{◌⊎◌, inl, inr, ⊎_elim}
-use mathlib.Core.Option.{Option, some, none, some-injective, none-ne-some}
 use native.Mathlib.Omega.{arith}
 use lib.Dec.{eqb, ltb}
-use lib.ListN.{get_elem?}
 use borrow.Author.Tests.{eqb-true, eqb-false, ltb-true, ltb-false}
 use Rattle.model.specs.Replay.{Event}
 use Rattle.model.specs.HappensBefore.{same_sequence, overwrites, conflict, At, Follows, ProgramOrder, Conflict, HappensBefore}
@@ -44,10 +44,10 @@ pub record Between (events : List Event) (test : Event → Bool) (i j : ℕ) : T
   pub passes : test z ≡ true
 
 -- The event at a place passes a test, or there is none that does.
-at_or_none : (events : List Event) (test : Event → Bool) (j : ℕ) (o : Option Event) → get_elem? events j ≡ o →
+at_or_none : (events : List Event) (test : Event → Bool) (j : ℕ) (o : Option Event) → slice_get events j ≡ o →
     ((z : Event) × At events j z × (test z ≡ true)) ⊎ ((z : Event) → At events j z → test z ≡ false)
-at_or_none events test j none e = inr (λ z at. absurd (none-ne-some _ (sym e ∙ at)))
-at_or_none events test j (some z) e =
+at_or_none events test j None e = inr (λ z at. absurd (none-ne-some _ (sym e ∙ at)))
+at_or_none events test j (Some z) e =
     decided (test z) (λ t. inl (z, e, t)) (λ t. inr (λ w at. ap test (some-injective w z (sym at ∙ e)) ∙ t))
 
 -- Some event between two places passes a test, or none does.
@@ -56,7 +56,7 @@ pub between_or_none : (events : List Event) (test : Event → Bool) (i j : ℕ) 
 between_or_none events test i zero = inr (λ k z p q at. absurd (omega arith))
 between_or_none events test i (suc j) =
     decided (ltb i j)
-    (λ t. go (ltb-true i j t) (between_or_none events test i j) (at_or_none events test j (get_elem? events j) refl))
+    (λ t. go (ltb-true i j t) (between_or_none events test i j) (at_or_none events test j (slice_get events j) refl))
     (λ t. inr (λ k z p q at. absurd (omega (arith, ltb-false i j t))))
   where
     go : i < j → Between events test i j ⊎ ((k : ℕ) (z : Event) → i < k → k < j → At events k z → test z ≡ false) →

@@ -1,11 +1,11 @@
 -- The group from which the fewest arrows lead back to it. What the search among a list of groups tells is put together from what it tells of the
 -- first, which is the lowest, and of the rest.
+use Rattle.std.specs.Prelude.{Option, Some, None}
 use Prim.Native.Nat.{ℕ, ◌≤◌, ◌<◌}
 use mathlib.Core.Path.{refl, sym, subst}
 use mathlib.Core.List.Memᴰ
 use mathlib.Core.List.{List, [], ◌∷◌}
 use mathlib.Core.Logic.{⊎_elim}
-use mathlib.Core.Option.{Option, some, none}
 use native.Mathlib.Omega.{arith}
 use lib.Dec.{leb}
 use borrow.Author.Tests.{leb-true, leb-false}
@@ -27,8 +27,8 @@ pub record Closest (groups : List ℕ) (edges : List Edge) (c : Closing) : Type 
 
 -- What a search among these groups tells.
 pub data Search (most : ℕ) (groups : List ℕ) (edges : List Edge) : Option Closing → Type 0 where
-  nowhere : ((x m : ℕ) → x ∈ groups → 1 ≤ m → m ≤ most → ¬ Walk edges m x x) → Search most groups edges none
-  somewhere : (c : Closing) → c.arrows ≤ most → Closest groups edges c → Search most groups edges (some c)
+  nowhere : ((x m : ℕ) → x ∈ groups → 1 ≤ m → m ≤ most → ¬ Walk edges m x x) → Search most groups edges None
+  somewhere : (c : Closing) → c.arrows ≤ most → Closest groups edges c → Search most groups edges (Some c)
 
 module _ (most g : ℕ) (groups : List ℕ) (edges : List Edge) (lower : (x : ℕ) → x ∈ groups → g < x) where
   -- A walk that closes at one of the list closes at g or at one of the rest.

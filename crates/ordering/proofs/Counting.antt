@@ -1,11 +1,11 @@
 -- How many edges there are: at most three for each event. At most one by program order leads into an event. A read stays open until its cell is
 -- written: a read gets at most one edge by conflict and opens one read; a write gets one from the nearest write and one from each open read of its
 -- cell, which it closes. So two for each event pay for all edges by conflict.
+use Rattle.std.specs.Prelude.{Option, Some, None}
 use Prim.Native.Nat.{ℕ, ◌+◌, ◌*◌, ◌≤◌}
 use mathlib.Core.Path.{◌≡◌, refl, sym, ap, ◌∙◌}
 use mathlib.Core.Bool.{Bool, true, false, not, false≢true}
 use mathlib.Core.List.{List, [], ◌∷◌, ◌++◌, append_assoc, reverse_aux}
-use mathlib.Core.Option.{Option, some, none}
 use native.Mathlib.Omega.{arith}
 use lib.Dec.{eqb}
 use lib.ListN.{length, length-append}
@@ -48,8 +48,8 @@ select_through {A} p q h (x ∷ l) =
 
 -- The reads that no later event overwrites, after one more access and after all events; the events before, the nearest first.
 open_after : Option Access → List Access → List Access
-open_after none reads = reads
-open_after (some a) reads = when a.writes (λ _. select (λ r. not (same_cell r a)) reads) (λ _. a ∷ reads)
+open_after None reads = reads
+open_after (Some a) reads = when a.writes (λ _. select (λ r. not (same_cell r a)) reads) (λ _. a ∷ reads)
 
 pub open_reads : List Event → List Access
 open_reads [] = []
@@ -60,35 +60,35 @@ abbrev open_at : Access → List Access → ℕ
 open_at b reads = length (select (λ r. same_cell r b) reads)
 
 due : Option Access → List Access → ℕ
-due none reads = 0
-due (some b) reads = when b.writes (λ _. 1 + open_at b reads) (λ _. 1)
+due None reads = 0
+due (Some b) reads = when b.writes (λ _. 1 + open_at b reads) (λ _. 1)
 
-due_none : (reads : List Access) → due none reads ≡ 0
+due_none : (reads : List Access) → due None reads ≡ 0
 unfolding due
 due_none reads = refl
 
 module _ (a : Access) (reads : List Access) where
-  open_write : a.writes ≡ true → open_after (some a) reads ≡ select (λ r. not (same_cell r a)) reads
+  open_write : a.writes ≡ true → open_after (Some a) reads ≡ select (λ r. not (same_cell r a)) reads
   unfolding open_after
   open_write h = when_true _ _ h
 
-  open_read : a.writes ≡ false → open_after (some a) reads ≡ a ∷ reads
+  open_read : a.writes ≡ false → open_after (Some a) reads ≡ a ∷ reads
   unfolding open_after
   open_read h = when_false _ _ h
 
-  due_write : a.writes ≡ true → due (some a) reads ≡ 1 + open_at a reads
+  due_write : a.writes ≡ true → due (Some a) reads ≡ 1 + open_at a reads
   unfolding due
   due_write h = when_true _ _ h
 
-  due_read : a.writes ≡ false → due (some a) reads ≡ 1
+  due_read : a.writes ≡ false → due (Some a) reads ≡ 1
   unfolding due
   due_read h = when_false _ _ h
 
-  due_some : 1 ≤ due (some a) reads
+  due_some : 1 ≤ due (Some a) reads
   due_some = decided a.writes (λ h. rw (due_write h) (omega arith)) (λ h. rw (due_read h) (omega arith))
 
   -- A write closes the reads that it has edges from, and a read opens one.
-  due_paid : due (some a) reads + length (open_after (some a) reads) ≤ length reads + 2
+  due_paid : due (Some a) reads + length (open_after (Some a) reads) ≤ length reads + 2
   due_paid =
       decided a.writes
       (λ h. rw (due_write h, open_write h) (omega (arith, select_parts (λ r. same_cell r a) reads)))
@@ -96,7 +96,7 @@ module _ (a : Access) (reads : List Access) where
 
 module _ (a b : Access) (reads : List Access) where
   -- An access at another cell leaves the open reads of this one, and a read at the same cell is one more.
-  open_elsewhere : same_cell a b ≡ false → open_at b (open_after (some a) reads) ≡ open_at b reads
+  open_elsewhere : same_cell a b ≡ false → open_at b (open_after (Some a) reads) ≡ open_at b reads
   open_elsewhere other =
       decided a.writes
       (λ w. rw (open_write a reads w) (ap length (select_through (λ r. same_cell r b) (λ r. not (same_cell r a)) passes reads)))
@@ -108,15 +108,15 @@ module _ (a b : Access) (reads : List Access) where
           (λ t. absurd (false≢true (sym other ∙ cell_test r b h a ∙ cell_sym r a t)))
           (λ t. ap not t)
 
-  open_here : same_cell a b ≡ true → a.writes ≡ false → open_at b (open_after (some a) reads) ≡ 1 + open_at b reads
+  open_here : same_cell a b ≡ true → a.writes ≡ false → open_at b (open_after (Some a) reads) ≡ 1 + open_at b reads
   open_here same w =
       rw (open_read a reads w) (omega (arith, ap length (select_yes (λ r. same_cell r b) a reads same)))
 
-  due_elsewhere : same_cell a b ≡ false → due (some b) (open_after (some a) reads) ≡ due (some b) reads
+  due_elsewhere : same_cell a b ≡ false → due (Some b) (open_after (Some a) reads) ≡ due (Some b) reads
   due_elsewhere other =
       decided b.writes
-      (λ w. due_write b (open_after (some a) reads) w ∙ ap (λ n. 1 + n) (open_elsewhere other) ∙ sym (due_write b reads w))
-      (λ w. due_read b (open_after (some a) reads) w ∙ sym (due_read b reads w))
+      (λ w. due_write b (open_after (Some a) reads) w ∙ ap (λ n. 1 + n) (open_elsewhere other) ∙ sym (due_write b reads w))
+      (λ w. due_read b (open_after (Some a) reads) w ∙ sym (due_read b reads w))
 
 -- The edge from one event, and those from behind it unless it ends the search.
 spent : (conflicts ends : Bool) (edge rest : ℕ) → ℕ
@@ -131,32 +131,32 @@ spent_lists false true edge rest = refl
 spent_lists false false edge rest = omega arith
 
 -- One event further back the edges are within what is due.
-module _ (a b : Access) (reads : List Access) (edge rest : ℕ) (p : edge ≤ 1) (q : rest ≤ due (some b) reads) where
+module _ (a b : Access) (reads : List Access) (edge rest : ℕ) (p : edge ≤ 1) (q : rest ≤ due (Some b) reads) where
   abbrev Due : Bool → Bool → Type 0
-  Due conflicts ends = spent conflicts ends edge rest ≤ due (some b) (open_after (some a) reads)
+  Due conflicts ends = spent conflicts ends edge rest ≤ due (Some b) (open_after (Some a) reads)
 
-  due_if : (c o : Bool) → conflict (some a) (some b) ≡ c → overwrites (some a) (some b) ≡ o → Due c o →
-      Due (conflict (some a) (some b)) (overwrites (some a) (some b))
+  due_if : (c o : Bool) → conflict (Some a) (Some b) ≡ c → overwrites (Some a) (Some b) ≡ o → Due c o →
+      Due (conflict (Some a) (Some b)) (overwrites (Some a) (Some b))
   due_if c o e f h = rw (e, f) h
 
-  back_some : Due (conflict (some a) (some b)) (overwrites (some a) (some b))
+  back_some : Due (conflict (Some a) (Some b)) (overwrites (Some a) (Some b))
   unfolding conflict overwrites spent
   back_some =
       decided (same_cell a b)
       (λ same. decided a.writes
-      (λ w. due_if true true (rw (same, w)) (rw (same, w)) (omega (arith, due_some b (open_after (some a) reads))))
+      (λ w. due_if true true (rw (same, w)) (rw (same, w)) (omega (arith, due_some b (open_after (Some a) reads))))
       (λ w. decided b.writes
       (λ v. due_if true false (rw (same, w, v)) (rw (same, w))
-      (rw (due_write b (open_after (some a) reads) v, open_here a b reads same w) (omega (arith, due_write b reads v))))
-      (λ v. due_if false false (rw (same, w, v)) (rw (same, w)) (rw (due_read b (open_after (some a) reads) v) (omega (arith, due_read b reads v))))))
+      (rw (due_write b (open_after (Some a) reads) v, open_here a b reads same w) (omega (arith, due_write b reads v))))
+      (λ v. due_if false false (rw (same, w, v)) (rw (same, w)) (rw (due_read b (open_after (Some a) reads) v) (omega (arith, due_read b reads v))))))
       (λ other. due_if false false (rw other) (rw other) (rw (due_elsewhere a b reads other) (omega arith)))
 
 back : (x y : Option Access) (reads : List Access) (edge rest : ℕ) → edge ≤ 1 → rest ≤ due y reads →
     spent (conflict x y) (overwrites x y) edge rest ≤ due y (open_after x reads)
 unfolding conflict overwrites spent open_after due
-back none y reads edge rest p q = omega arith
-back (some a) none reads edge rest p q = omega arith
-back (some a) (some b) reads edge rest p q = back_some a b reads edge rest p q
+back None y reads edge rest p q = omega arith
+back (Some a) None reads edge rest p q = omega arith
+back (Some a) (Some b) reads edge rest p q = back_some a b reads edge rest p q
 
 -- So the edges by conflict into an event are within what is due.
 conflict_due : (y : Event) (before : List Event) → length (conflict_edges y before) ≤ due y.access (open_reads before)
@@ -169,8 +169,8 @@ conflict_due y (x ∷ before) =
 -- What is due and what stays open are within what was open and two more.
 paid : (y : Option Access) (reads : List Access) → due y reads + length (open_after y reads) ≤ length reads + 2
 unfolding open_after due
-paid none reads = omega arith
-paid (some b) reads = due_paid b reads
+paid None reads = omega arith
+paid (Some b) reads = due_paid b reads
 
 -- All edges into the events from here on, with the reads that are open; and all edges of a run.
 pub edges_from_count : (before rest : List Event) → length (edges_from before rest) ≤ length (open_reads before) + 3 * length rest

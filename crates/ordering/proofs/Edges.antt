@@ -2,13 +2,13 @@
 -- look back from y, draw an edge from each event that hits, and end after the first that stops. So an edge is drawn from x exactly if x hits and
 -- none nearer to y stops. For program order an event that hits stops; for conflicts a write to the cell does. The relation asks its test of the
 -- first event and the search asks it of the last: they tell the same, since both events have one rank, or one cell.
+use Rattle.model.proofs.Options.{none-ne-some, some-injective}
 use Prim.Native.Nat.{ℕ, zero, suc, ◌+◌, ◌<◌}
 use mathlib.Core.Path.{◌≡◌, refl, sym, ap, ◌∙◌, subst}
 use mathlib.Core.Bool.{Bool, true, false}
 use mathlib.Core.List.Memᴰ
 use mathlib.Core.List.{List, [], ◌∷◌, ◌++◌, reverse_aux, append-nil}
 use mathlib.Core.Logic.{◌⊎◌, inl, inr, ⊎_elim, ◌↔◌}
-use mathlib.Core.Option.{none-ne-some, some-injective}
 use native.Mathlib.Omega.{arith}
 use lib.Dec.{eqb}
 use lib.ListN.{length}

@@ -1,12 +1,13 @@
 -- The first of the walks of n arrows from x to g. Its next group is the lowest from which the rest of the way can be gone, and any walk's next group
 -- is one of those: so it comes before every other when they are compared place by place.
+use Rattle.std.specs.Prelude.{Option, Some, None}
+use Rattle.model.proofs.Options.{none-ne-some, some-injective}
 use Prim.Native.Nat.{ℕ, zero, suc, ◌≤◌}
 use mathlib.Core.Path.{◌≡◌, refl, sym, ap, ◌∙◌, subst}
 use mathlib.Core.Bool.{◌&&◌, false≢true}
 use mathlib.Core.List.Memᴰ
 use mathlib.Core.List.{List, [], ◌∷◌, ◌++◌}
 use mathlib.Core.Logic.{⊎_elim}
-use mathlib.Core.Option.{Option, some, none, none-ne-some, some-injective}
 use native.Mathlib.Nat.{min-le_left, min-le_right}
 use native.Mathlib.Omega.{arith}
 use lib.Dec.{eqb, ltb}
@@ -26,14 +27,14 @@ use Rattle.ordering.specs.Orders.{ComesFirst, end, less, equal}
 -- The lowest next group has the arrow and is one of the list; and one that has both is no lower.
 lower_le : (g : ℕ) (o : Option ℕ) → lower g o ≤ g
 unfolding lower
-lower_le g none = omega arith
-lower_le g (some h) = min-le_left g h
+lower_le g None = omega arith
+lower_le g (Some h) = min-le_left g h
 
-lower_le_some : (g : ℕ) (o : Option ℕ) (h : ℕ) → o ≡ some h → lower g o ≤ h
+lower_le_some : (g : ℕ) (o : Option ℕ) (h : ℕ) → o ≡ Some h → lower g o ≤ h
 unfolding lower
 lower_le_some g o h e = rw e (min-le_right g h)
 
-pub next_sound : (g : ℕ) (layer : List ℕ) (edges : List Edge) (h : ℕ) → lowest_next g layer edges ≡ some h → (g ⟶ h ∈ edges) × (h ∈ layer)
+pub next_sound : (g : ℕ) (layer : List ℕ) (edges : List Edge) (h : ℕ) → lowest_next g layer edges ≡ Some h → (g ⟶ h ∈ edges) × (h ∈ layer)
 unfolding lowest_next
 next_sound g layer [] h e = absurd (none-ne-some _ e)
 next_sound g layer (d ∷ edges) h e =
@@ -43,12 +44,12 @@ next_sound g layer (d ∷ edges) h e =
     ⊎_elim
     (λ q. let to : h ≡ d.to = sym low ∙ q in
     (here (rw (to, ← eqb-true d.from g from)), Memᴰ.cast to (member_true d.to layer in_layer)))
-    (λ q. let r = next_sound g layer edges h (q ∙ ap some low) in (there r.0, r.1))
+    (λ q. let r = next_sound g layer edges h (q ∙ ap Some low) in (there r.0, r.1))
     (lower_either d.to (lowest_next g layer edges)))
     (λ t. let r = next_sound g layer edges h (rw t at e) in (there r.0, r.1))
 
 pub next_lowest : (g : ℕ) (layer : List ℕ) (edges : List Edge) {h : ℕ} → g ⟶ h ∈ edges → h ∈ layer →
-    (x : ℕ) × (lowest_next g layer edges ≡ some x) × (x ≤ h)
+    (x : ℕ) × (lowest_next g layer edges ≡ Some x) × (x ≤ h)
 unfolding lowest_next
 next_lowest g layer [] m k = absurd (Memᴰ.not-nil m)
 next_lowest g layer (d ∷ edges) {h} m k =
@@ -90,7 +91,7 @@ first_walk_lem edges zero x g (step {h = h} a w) =
       is = rw is;
       long = refl;
       along = (Memᴰ.cast (ap (λ (y : ℕ). x ⟶ y) (sym (one_group low g in_layer))) arrow, tt);
-      before = λ other none b. none_first other none;
+      before = λ other None b. none_first other None;
     }
   where
     none_first : (other : List ℕ) → length other ≡ 0 → ComesFirst [] other
@@ -108,7 +109,7 @@ first_walk_lem edges (suc n) x g (step {h = h} a w) =
       before = λ other long b. then_first low is onwards other long b;
     }
   where
-    then_first : (low : ℕ) → lowest_next x (coming_to (suc n) g edges) edges ≡ some low → (r : FirstWalk edges n low g) → (other : List ℕ) →
+    then_first : (low : ℕ) → lowest_next x (coming_to (suc n) g edges) edges ≡ Some low → (r : FirstWalk edges n low g) → (other : List ℕ) →
         length other ≡ suc n → Along edges x (other ++ g ∷ []) → ComesFirst (low ∷ r.rest) other
     then_first low is r [] e b = absurd (omega arith)
     then_first low is r (y ∷ other) e b =

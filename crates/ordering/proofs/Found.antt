@@ -1,9 +1,9 @@
 -- The ring, however it was found: where a group is known to be the closest, the ring is the first walk from it to itself; and where no walk closes,
 -- there is none. The closest group is one, and no walk round has more arrows than there are groups, since it passes none twice.
+use Rattle.std.specs.Prelude.{Option, Some}
 use Prim.Native.Nat.{ℕ, suc, ◌-◌, ◌≤◌}
 use mathlib.Core.Path.{◌≡◌, refl, sym, ap, subst}
 use mathlib.Core.List.{List, []}
-use mathlib.Core.Option.{Option, some}
 use native.Mathlib.Omega.{arith}
 use lib.ListN.{length}
 use Rattle.model.specs.HappensBefore.{Edge}
@@ -49,9 +49,9 @@ module _ (groups : List ℕ) (edges : List Edge) (starts : Starts groups edges) 
     unfolding ring closed_walk
     ring_closest c is = ap (closed_walk edges) (by_search (closest_is (length groups) groups edges rising))
       where
-        by_search : {o : Option Closing} → Search (length groups) groups edges o → o ≡ some c
+        by_search : {o : Option Closing} → Search (length groups) groups edges o → o ≡ Some c
         by_search (nowhere nothing) = absurd (nothing c.group c.arrows is.inside is.one (short_enough c is) is.walk)
-        by_search (somewhere d few other) = ap some (closest_one c d is other)
+        by_search (somewhere d few other) = ap Some (closest_one c d is other)
 
     -- Where no walk closes, there is none.
     pub ring_nowhere : ((x m : ℕ) → 1 ≤ m → m ≤ length groups → ¬ Walk edges m x x) → ring groups edges ≡ []

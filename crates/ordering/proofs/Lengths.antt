@@ -1,15 +1,16 @@
 -- How many arrows lead from one group to another. A walk of n arrows from x to h is there exactly if x is among the groups that come to h by n
 -- arrows. So the search that counts n up finds the fewest that lead there, and finds none only if no more than its turns do.
+use Rattle.std.specs.Prelude.{Option, Some, None, slice_get}
+use Rattle.model.proofs.Options.{none-ne-some, some-injective}
 use Prim.Native.Nat.{ℕ, zero, suc, ◌+◌, ◌≤◌}
 use mathlib.Core.Path.{◌≡◌, refl, sym, ap, ◌∙◌, subst}
 use mathlib.Core.List.Memᴰ
 use mathlib.Core.List.{List, [], ◌∷◌, ◌++◌}
 use mathlib.Core.Logic.{⊎_elim}
-use mathlib.Core.Option.{Option, some, none, none-ne-some, some-injective}
 use native.Mathlib.Nat.{zero-add, suc-add}
 use native.Mathlib.Omega.{arith}
 use lib.Dec.{eqb}
-use lib.ListN.{length, get_elem?}
+use lib.ListN.{length}
 use borrow.Author.Tests.{eqb-true, eqb-false}
 use Rattle.model.specs.Choice.{member}
 use Rattle.model.specs.HappensBefore.{Edge, ◌⟶◌}
@@ -29,8 +30,8 @@ along_walk edges x g [] a = step a.0 (stay refl)
 along_walk edges x g (h ∷ l) a = step a.0 (along_walk edges h g l a.1)
 
 -- Along a walk, from one place to a later one.
-pub walk_between : (edges : List Edge) (g : ℕ) (l : List ℕ) → Along edges g l → (i j d : ℕ) {a b : ℕ} → get_elem? (g ∷ l) i ≡ some a →
-    get_elem? (g ∷ l) j ≡ some b → j ≡ i + d → Walk edges d a b
+pub walk_between : (edges : List Edge) (g : ℕ) (l : List ℕ) → Along edges g l → (i j d : ℕ) {a b : ℕ} → slice_get (g ∷ l) i ≡ Some a →
+    slice_get (g ∷ l) j ≡ Some b → j ≡ i + d → Walk edges d a b
 walk_between edges g l w zero zero zero p q e = stay (some-injective _ _ (sym p ∙ q))
 walk_between edges g l w zero zero (suc d) p q e = absurd (omega arith)
 walk_between edges g l w zero (suc j) zero p q e = absurd (omega arith)
@@ -80,8 +81,8 @@ walk_coming edges (step {n} {x} {h} {g} a w) = starts_complete (coming_to n g ed
 
 -- What a search for the fewest arrows tells, one at least and at most so many: none leads there; or so many do, and no fewer.
 pub data Fewest (edges : List Edge) (least most g h : ℕ) : Option ℕ → Type 0 where
-  unled : ((m : ℕ) → least ≤ m → m ≤ most → ¬ Walk edges m g h) → Fewest edges least most g h none
-  led : (n : ℕ) → least ≤ n → n ≤ most → Walk edges n g h → ((m : ℕ) → least ≤ m → Walk edges m g h → n ≤ m) → Fewest edges least most g h (some n)
+  unled : ((m : ℕ) → least ≤ m → m ≤ most → ¬ Walk edges m g h) → Fewest edges least most g h None
+  led : (n : ℕ) → least ≤ n → n ≤ most → Walk edges n g h → ((m : ℕ) → least ≤ m → Walk edges m g h → n ≤ m) → Fewest edges least most g h (Some n)
 
 -- No walk of n arrows is there: what is told from n + 1 on is told from n on.
 fewest_later : (edges : List Edge) (n most g h : ℕ) → ¬ Walk edges n g h → {o : Option ℕ} → Fewest edges (suc n) most g h o → Fewest edges n most g h o

@@ -1,9 +1,9 @@
 -- Which events are linked: two commands of one rank's sequence, two accesses that conflict. Both links look only at what the two events share, a
 -- rank or a cell, so an event between them that shares it with the one shares it with the other.
+use Rattle.std.specs.Prelude.{Option, Some, None}
 use Prim.Native.Nat.{ℕ}
 use mathlib.Core.Path.{◌≡◌, refl, sym, ap, ◌∙◌, ap₂}
 use mathlib.Core.Bool.{Bool, true, false, ◌&&◌, ◌||◌, false≢true, or_comm}
-use mathlib.Core.Option.{Option, some, none}
 use lib.Dec.{eqb}
 use borrow.Author.Tests.{eq-eqb, ne_eqb, eqb-true, eqb-false}
 use Rattle.model.specs.Machine.{Access}
@@ -60,20 +60,20 @@ cell_sym a b h = sym (cell_test a b h b) ∙ true_and _ _ (eqb_refl b.address.ra
 -- Accesses conflict either way round.
 pub conflict_sym : (x y : Option Access) → conflict x y ≡ conflict y x
 unfolding conflict
-conflict_sym none none = refl
-conflict_sym none (some b) = refl
-conflict_sym (some a) none = refl
-conflict_sym (some a) (some b) =
+conflict_sym None None = refl
+conflict_sym None (Some b) = refl
+conflict_sym (Some a) None = refl
+conflict_sym (Some a) (Some b) =
     ap₂ ◌&&◌ (ap₂ ◌&&◌ (eqb_comm a.address.rank b.address.rank) (eqb_comm a.address.cell b.address.cell))
     (or_comm a.writes b.writes)
 
 -- Of two accesses that conflict, another overwrites the one exactly if it overwrites the other.
 pub overwrite_test : (a b : Option Access) → conflict a b ≡ true → (c : Option Access) → overwrites c b ≡ overwrites c a
 unfolding overwrites conflict
-overwrite_test none b h c = absurd (false≢true h)
-overwrite_test (some a) none h c = absurd (false≢true h)
-overwrite_test (some a) (some b) h none = refl
-overwrite_test (some a) (some b) h (some c) =
+overwrite_test None b h c = absurd (false≢true h)
+overwrite_test (Some a) None h c = absurd (false≢true h)
+overwrite_test (Some a) (Some b) h None = refl
+overwrite_test (Some a) (Some b) h (Some c) =
     ap (λ (t : Bool). t && c.writes) (cell_test a b (and-true (same_cell a b) (either_writes a b) h).0 c)
 
 -- A choice of tests passes by either.
@@ -87,10 +87,10 @@ or_right false b h = h
 -- A write between two accesses that conflict conflicts with both.
 pub write_splits : (a b c : Option Access) → conflict a b ≡ true → overwrites c a ≡ true → (conflict a c ≡ true) × (conflict c b ≡ true)
 unfolding conflict overwrites
-write_splits none b c h o = absurd (false≢true h)
-write_splits (some a) none c h o = absurd (false≢true h)
-write_splits (some a) (some b) none h o = absurd (false≢true o)
-write_splits (some a) (some b) (some c) h o =
+write_splits None b c h o = absurd (false≢true h)
+write_splits (Some a) None c h o = absurd (false≢true h)
+write_splits (Some a) (Some b) None h o = absurd (false≢true o)
+write_splits (Some a) (Some b) (Some c) h o =
     let shared : same_cell a b ≡ true = (and-true (same_cell a b) (either_writes a b) h).0 in
     let (cell, writes) = and-true (same_cell c a) c.writes o in (
       true_and (same_cell a c) (either_writes a c) (cell_sym c a cell) (or_right a.writes c.writes writes),

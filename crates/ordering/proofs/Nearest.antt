@@ -1,24 +1,25 @@
 -- Looking back over a run. The events before an event stand nearest first, so the whole run is that list turned round onto the rest: what lies d
 -- deep in it is d + 1 places before the event. An event is nearest under a test if none that lies less deep passes it; in the run, if none between
 -- does.
+use Rattle.std.specs.Prelude.{slice_get}
+use Rattle.model.proofs.Options.{some-injective}
 use Prim.Native.Nat.{ℕ, zero, suc, ◌+◌, ◌-◌, ◌<◌}
 use mathlib.Core.Path.{◌≡◌, refl, sym, ap, ◌∙◌}
 use mathlib.Core.Bool.{Bool, false}
 use mathlib.Core.List.{List, [], ◌∷◌, reverse_aux}
-use mathlib.Core.Option.{some-injective}
 use native.Mathlib.Omega.{arith}
-use lib.ListN.{length, get_elem?}
+use lib.ListN.{length}
 use Rattle.model.specs.Replay.{Event}
 use Rattle.model.specs.HappensBefore.{At, Follows}
-use Rattle.model.proofs.Laws.{get_elem?_bound}
+use Rattle.model.proofs.Laws.{slice_get_bound}
 
 -- The places of a list that is turned round onto another.
-pub turned_rest : {A : Type 0} (before rest : List A) (j k : ℕ) → j ≡ length before + k → get_elem? (reverse_aux before rest) j ≡ get_elem? rest k
-turned_rest [] rest j k h = ap (get_elem? rest) (omega arith)
+pub turned_rest : {A : Type 0} (before rest : List A) (j k : ℕ) → j ≡ length before + k → slice_get (reverse_aux before rest) j ≡ slice_get rest k
+turned_rest [] rest j k h = ap (slice_get rest) (omega arith)
 turned_rest (x ∷ before) rest j k h = turned_rest before (x ∷ rest) j (suc k) (omega arith)
 
 pub turned_before : {A : Type 0} (before rest : List A) (i d : ℕ) → i + suc d ≡ length before →
-    get_elem? (reverse_aux before rest) i ≡ get_elem? before d
+    slice_get (reverse_aux before rest) i ≡ slice_get before d
 turned_before [] rest i d h = absurd (omega arith)
 turned_before (x ∷ before) rest i zero h = turned_rest before (x ∷ rest) i 0 (omega arith)
 turned_before (x ∷ before) rest i (suc d) h = turned_before before (x ∷ rest) i d (omega arith)
@@ -48,7 +49,7 @@ nearest_deeper {before} {test} w t n =
 pub nearest_follows : (before rest : List Event) {test : Event → Bool} {x y : Event} → Nearest before test x →
     Follows (reverse_aux before (y ∷ rest)) test x y
 nearest_follows before rest {y} n =
-    let bound : n.depth < length before = get_elem?_bound before n.depth n.lies in
+    let bound : n.depth < length before = slice_get_bound before n.depth n.lies in
     record {
       i = length before - suc n.depth;
       j = length before;

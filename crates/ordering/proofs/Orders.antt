@@ -1,10 +1,10 @@
 -- Orders and cycles of the groups: along an order no walk closes, a cycle is a closed walk, and there is one shortest ring at most.
+use Rattle.std.specs.Prelude.{Some, slice_get}
 use Prim.Native.Nat.{ℕ, suc, ◌≤◌}
 use mathlib.Core.Path.{◌≡◌, refl, sym, ap}
 use mathlib.Core.List.{List, [], ◌∷◌, ◌++◌}
-use mathlib.Core.Option.{some}
 use native.Mathlib.Omega.{arith}
-use lib.ListN.{length, get_elem?}
+use lib.ListN.{length}
 use Rattle.model.specs.HappensBefore.{Edge, ◌⟶◌}
 use Rattle.model.specs.Lists.{◌∈◌, Precedes}
 use Rattle.model.proofs.Lists.{precedes_trans, precedes_irreflexive, pigeonhole}
@@ -23,8 +23,8 @@ cycle_length groups edges l c = pigeonhole groups l c.once c.below
 
 -- A cycle, which is said by places, is a closed walk.
 along_from : (edges : List Edge) (g : ℕ) (l : List ℕ) (x : ℕ) →
-    ((i a b : ℕ) → get_elem? (g ∷ l) i ≡ some a → get_elem? l i ≡ some b → a ⟶ b ∈ edges) →
-    ((i a : ℕ) → i ≡ length l → get_elem? (g ∷ l) i ≡ some a → a ⟶ x ∈ edges) → Along edges g (l ++ x ∷ [])
+    ((i a b : ℕ) → slice_get (g ∷ l) i ≡ Some a → slice_get l i ≡ Some b → a ⟶ b ∈ edges) →
+    ((i a : ℕ) → i ≡ length l → slice_get (g ∷ l) i ≡ Some a → a ⟶ x ∈ edges) → Along edges g (l ++ x ∷ [])
 along_from edges g [] x next last = (last 0 g refl refl, tt)
 along_from edges g (h ∷ l) x next last =
     (next 0 g h refl refl, along_from edges h l x (λ i a b p q. next (suc i) a b p q) (λ i a e p. last (suc i) a (ap suc e) p))

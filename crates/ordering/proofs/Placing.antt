@@ -1,13 +1,15 @@
 -- The greedy placing. Each turn takes a group into which no edge leads any more, and with it the edges that come from it. So an edge's start is
 -- placed before its end: while the start is unplaced the edge is still there, and its end cannot be taken. As many turns as there are groups
 -- suffice, so at the end none of those left can be taken.
+use Rattle.std.specs.Prelude.{Option, Some, None}
+use Rattle.model.proofs.Options.{none-ne-some, some-injective}
 use Prim.Native.Nat.{ℕ, zero, suc, ◌+◌, ◌≤◌}
 use mathlib.Core.Path.{◌≡◌, refl, sym, ap, ◌∙◌}
 use mathlib.Core.Bool.{true, false, false≢true, not}
 use mathlib.Core.List.Memᴰ
 use mathlib.Core.List.{List, [], ◌∷◌}
 use mathlib.Core.Logic.{◌⊎◌, inl, inr, ⊎_elim}
-use mathlib.Core.Option.{Option, some, none, none-ne-some, some-injective, some-ne-none}
+use Rattle.model.proofs.Options.{some-ne-none}
 use native.Mathlib.Omega.{arith}
 use lib.Dec.{eqb}
 use lib.ListN.{length}
@@ -40,7 +42,7 @@ pub into_edge : (g : ℕ) (edges : List Edge) {e : Edge} → e ∈ edges → e.t
 into_edge g edges {e} m q = decided (has_edge_into g edges) (λ t. t) (λ t. absurd (no_edge_into g edges t e m q))
 
 -- A group that can be taken is one of the list with no edge into it; if none can be, an edge leads into each.
-pub free : (edges : List Edge) (groups : List ℕ) (g : ℕ) → first_free edges groups ≡ some g → (g ∈ groups) × (has_edge_into g edges ≡ false)
+pub free : (edges : List Edge) (groups : List ℕ) (g : ℕ) → first_free edges groups ≡ Some g → (g ∈ groups) × (has_edge_into g edges ≡ false)
 unfolding first_free
 free edges [] g h = absurd (none-ne-some _ h)
 free edges (x ∷ groups) g h =
@@ -48,7 +50,7 @@ free edges (x ∷ groups) g h =
     (λ t. let r = free edges groups g (rw t at h) in (there r.0, r.1))
     (λ t. let same : x ≡ g = some-injective _ _ (rw t at h) in (here (sym same), rw (← same) t))
 
-pub none_free : (edges : List Edge) (groups : List ℕ) → first_free edges groups ≡ none → (g : ℕ) → g ∈ groups → has_edge_into g edges ≡ true
+pub none_free : (edges : List Edge) (groups : List ℕ) → first_free edges groups ≡ None → (g : ℕ) → g ∈ groups → has_edge_into g edges ≡ true
 unfolding first_free
 none_free edges [] h g m = absurd (Memᴰ.not-nil m)
 none_free edges (x ∷ groups) h g m =
@@ -67,18 +69,18 @@ not_from_within g edges {e} m =
 
 -- What holds where no group can be taken, and of a placing if it holds of what comes after its first group, holds of the whole.
 module _ (P : List ℕ → List Edge → Placing → Type 0)
-    (ends : (groups : List ℕ) (edges : List Edge) → first_free edges groups ≡ none → P groups edges (stuck groups edges))
-    (takes : (groups : List ℕ) (edges : List Edge) (g : ℕ) (rest : Placing) → first_free edges groups ≡ some g →
+    (ends : (groups : List ℕ) (edges : List Edge) → first_free edges groups ≡ None → P groups edges (stuck groups edges))
+    (takes : (groups : List ℕ) (edges : List Edge) (g : ℕ) (rest : Placing) → first_free edges groups ≡ Some g →
     P (without g groups) (not_from g edges) rest →
     P groups edges (record { placed = g ∷ rest.placed; unplaced = rest.unplaced; edges = rest.edges }))
   where
     -- One turn.
     place_next_lem : (groups : List ℕ) (edges : List Edge) (after : ℕ → Placing) →
-        ((g : ℕ) → first_free edges groups ≡ some g → P (without g groups) (not_from g edges) (after g)) →
+        ((g : ℕ) → first_free edges groups ≡ Some g → P (without g groups) (not_from g edges) (after g)) →
         (o : Option ℕ) → first_free edges groups ≡ o → P groups edges (place_next groups edges after o)
     unfolding place_next
-    place_next_lem groups edges after later none h = ends groups edges h
-    place_next_lem groups edges after later (some g) h = takes groups edges g (after g) h (later g h)
+    place_next_lem groups edges after later None h = ends groups edges h
+    place_next_lem groups edges after later (Some g) h = takes groups edges g (after g) h (later g h)
 
     -- All turns, if they suffice.
     pub place_induction : (turns : ℕ) (groups : List ℕ) (edges : List Edge) → length groups ≤ turns → P groups edges (place turns groups edges)
@@ -103,10 +105,10 @@ pub record Placed (groups : List ℕ) (edges : List Edge) (p : Placing) : Type 0
   pub edges_left : (e : Edge) → e ∈ p.edges → e ∈ edges
   pub edges_kept : (e : Edge) → e ∈ edges → ¬ (e.from ∈ p.placed) → e ∈ p.edges
   pub left_within : Within p.unplaced p.edges
-  pub nothing_free : first_free p.edges p.unplaced ≡ none
+  pub nothing_free : first_free p.edges p.unplaced ≡ None
 
 -- No group can be taken.
-stuck_placed : (groups : List ℕ) (edges : List Edge) → first_free edges groups ≡ none → Distinct groups → Within groups edges →
+stuck_placed : (groups : List ℕ) (edges : List Edge) → first_free edges groups ≡ None → Distinct groups → Within groups edges →
     Placed groups edges (stuck groups edges)
 unfolding stuck
 stuck_placed groups edges h d w =
@@ -126,7 +128,7 @@ stuck_placed groups edges h d w =
     }
 
 -- A group is taken, and then the rest is placed.
-module _ (groups : List ℕ) (edges : List Edge) (g : ℕ) (f : first_free edges groups ≡ some g) where
+module _ (groups : List ℕ) (edges : List Edge) (g : ℕ) (f : first_free edges groups ≡ Some g) where
   -- No edge leads into the group that is taken.
   not_into : (e : Edge) → e ∈ edges → ¬ (e.to ≡ g)
   not_into = no_edge_into g edges (free edges groups g f).1

@@ -1,18 +1,19 @@
 -- Whether arrows lead from one group to another: some walk does exactly if one of no more arrows than there are groups does. A longer walk comes twice
 -- through a group, and what lies between can be left out. So the fewest arrows from one group to another are found wherever any lead there.
+use Rattle.std.specs.Prelude.{Option, Some, slice_get}
+use Rattle.model.proofs.Options.{none-ne-some}
 use Prim.Native.Nat.{ℕ, zero, suc, ◌+◌, ◌-◌, ◌<◌}
 use mathlib.Core.Path.{◌≡◌, refl, ap, subst}
 use mathlib.Core.List.Memᴰ
 use mathlib.Core.List.{List, [], ◌∷◌, ◌++◌}
 use mathlib.Core.Logic.{◌⊎◌, inl, inr, ⊎_elim, ◌↔◌}
-use mathlib.Core.Option.{Option, some, none-ne-some}
 use native.Mathlib.Omega.{arith}
-use lib.ListN.{length, get_elem?}
+use lib.ListN.{length}
 use Rattle.model.specs.Choice.{member}
 use Rattle.model.specs.HappensBefore.{Edge, ◌⟶◌}
 use Rattle.model.specs.Rings.{fewest}
 use Rattle.model.specs.Lists.{◌∈◌, Distinct}
-use Rattle.model.proofs.Laws.{decided, get_elem?_bound, get_elem?_front}
+use Rattle.model.proofs.Laws.{decided, slice_get_bound, slice_get_front}
 use Rattle.model.proofs.Selections.{split_at}
 use Rattle.model.proofs.Lists.{position, member_true, member_false, pigeonhole}
 use Rattle.ordering.specs.Walks.{Along, Walk, stay, step}
@@ -25,8 +26,8 @@ record Twice (l : List ℕ) : Type 0 where
   i : ℕ
   j : ℕ
   before : i < j
-  first : get_elem? l i ≡ some x
-  second : get_elem? l j ≡ some x
+  first : slice_get l i ≡ Some x
+  second : slice_get l j ≡ Some x
 
 distinct_or_twice : (l : List ℕ) → Distinct l ⊎ Twice l
 distinct_or_twice [] = inl tt
@@ -61,27 +62,27 @@ module _ (groups : ℕ) (edges : List Edge) (proper : Proper groups edges) where
           let (l, long, a) = walk_along m w in
           ⊎_elim
           (λ d. (m, omega (arith, long, pigeonhole groups (g ∷ l) d (along_below g l h a)), w))
-          (λ t. let late : t.j < suc m = omega (arith, get_elem?_bound (g ∷ l) t.j t.second, long) in
+          (λ t. let late : t.j < suc m = omega (arith, slice_get_bound (g ∷ l) t.j t.second, long) in
           let to : Walk edges t.i g t.x =
-          walk_between edges g (l ++ h ∷ []) a 0 t.i t.i refl (get_elem?_front (g ∷ l) (h ∷ []) t.i t.first) (omega arith) in
-          let ends : get_elem? (g ∷ (l ++ h ∷ [])) (suc m) ≡ some h =
-          subst (λ (k : ℕ). get_elem? (l ++ h ∷ []) k ≡ some h) long (split_at l h []) in
+          walk_between edges g (l ++ h ∷ []) a 0 t.i t.i refl (slice_get_front (g ∷ l) (h ∷ []) t.i t.first) (omega arith) in
+          let ends : slice_get (g ∷ (l ++ h ∷ [])) (suc m) ≡ Some h =
+          subst (λ (k : ℕ). slice_get (l ++ h ∷ []) k ≡ Some h) long (split_at l h []) in
           let on : Walk edges (suc m - t.j) t.x h =
-          walk_between edges g (l ++ h ∷ []) a t.j (suc m) (suc m - t.j) (get_elem?_front (g ∷ l) (h ∷ []) t.j t.second) ends (omega (arith, late)) in
+          walk_between edges g (l ++ h ∷ []) a t.j (suc m) (suc m - t.j) (slice_get_front (g ∷ l) (h ∷ []) t.j t.second) ends (omega (arith, late)) in
           let fewer : t.i + (suc m - t.j) ≡ suc (t.i + (m - t.j)) = omega (arith, late) in
           go turns (t.i + (m - t.j)) (omega (arith, late, t.before, enough))
           (subst (λ (k : ℕ). Walk edges k g h) fewer (walk_join to on)))
           (distinct_or_twice (g ∷ l))
 
   -- The fewest arrows from one group to another are found exactly if any lead there.
-  pub led_exactly : (g h : ℕ) → ((n : ℕ) × (fewest groups g h edges ≡ some n)) ↔ ((m : ℕ) × Walk edges (suc m) g h)
+  pub led_exactly : (g h : ℕ) → ((n : ℕ) × (fewest groups g h edges ≡ Some n)) ↔ ((m : ℕ) × Walk edges (suc m) g h)
   led_exactly g h = (found (fewest_is edges groups g h), λ (m, w). exists (fewest_is edges groups g h) (short_walk m g h w))
     where
-      found : {o : Option ℕ} → Fewest edges 1 groups g h o → ((n : ℕ) × (o ≡ some n)) → (m : ℕ) × Walk edges (suc m) g h
+      found : {o : Option ℕ} → Fewest edges 1 groups g h o → ((n : ℕ) × (o ≡ Some n)) → (m : ℕ) × Walk edges (suc m) g h
       found (unled nothing) (n, e) = absurd (none-ne-some _ e)
       found (led n low high w least) e =
           let one : n ≡ suc (n - 1) = omega (arith, low) in (n - 1, subst (λ (k : ℕ). Walk edges k g h) one w)
 
-      exists : {o : Option ℕ} → Fewest edges 1 groups g h o → ((k : ℕ) × (k < groups) × Walk edges (suc k) g h) → (n : ℕ) × (o ≡ some n)
+      exists : {o : Option ℕ} → Fewest edges 1 groups g h o → ((k : ℕ) × (k < groups) × Walk edges (suc k) g h) → (n : ℕ) × (o ≡ Some n)
       exists (unled nothing) (k, b, w) = absurd (nothing (suc k) (omega arith) (omega (arith, b)) w)
       exists (led n low high w least) k = (n, refl)

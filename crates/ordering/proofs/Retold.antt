@@ -1,9 +1,9 @@
 -- Edges depend on little of an event: its group, and which others are of its rank's sequence, conflict with it or overwrite it. So events that are
 -- told in other words, with as much as that in them, have the same edges.
+use Rattle.model.proofs.Options.{none-ne-some, some-injective}
 use Prim.Native.Nat.{ℕ, zero, suc}
 use mathlib.Core.Path.{◌≡◌, refl, subst, ap₂}
 use mathlib.Core.List.{List, [], ◌∷◌, ◌++◌, map}
-use mathlib.Core.Option.{none-ne-some, some-injective}
 use Rattle.model.specs.Replay.{Event}
 use Rattle.model.specs.HappensBefore.{same_sequence, overwrites, conflict, At, edges, program_edges, conflict_edges, edges_from, edges_of}
 

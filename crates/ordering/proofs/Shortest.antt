@@ -1,18 +1,19 @@
 -- The ring among groups that rise is the shortest, and of the shortest the first. The least n at which a walk closes is the least length. No group
 -- stands twice in it: the part between would be a shorter one. The first group at which it closes is the lowest of its ring, since each of the
 -- ring's groups closes a walk as long, on to the end and then round. And of the walks of that length from there to there it is the first.
+use Rattle.std.specs.Prelude.{Option, Some, slice_get}
+use Rattle.model.proofs.Options.{some-injective}
 use Prim.Native.Nat.{ℕ, suc, ◌+◌, ◌-◌, ◌≤◌, ◌<◌}
 use mathlib.Core.Path.{◌≡◌, refl, sym, subst}
 use mathlib.Core.List.{List, [], ◌∷◌, ◌++◌}
-use mathlib.Core.Option.{Option, some, some-injective}
 use native.Mathlib.Omega.{arith}
 use lib.Dec.{ltb}
-use lib.ListN.{length, get_elem?}
+use lib.ListN.{length}
 use borrow.Author.Tests.{ltb-true, ltb-false}
 use Rattle.model.specs.HappensBefore.{Edge}
 use Rattle.model.specs.Rings.{Closing, closed_walk, ring}
 use Rattle.model.specs.Lists.{◌∈◌, Distinct, Rising}
-use Rattle.model.proofs.Laws.{decided, get_elem?_bound, get_elem?_front}
+use Rattle.model.proofs.Laws.{decided, slice_get_bound, slice_get_front}
 use Rattle.model.proofs.Selections.{split_at}
 use Rattle.model.proofs.Lists.{position}
 use Rattle.ordering.specs.Walks.{Along, Closed, Walk, stay, step}
@@ -29,11 +30,11 @@ Starts groups edges = (e : Edge) → e ∈ edges → e.from ∈ groups
 -- A ring among these groups: a circuit from its lowest group, of no more groups than any closed walk has, that comes first of those as long.
 pub record ShortestAmong (groups : List ℕ) (edges : List Edge) (l : List ℕ) : Type 0 where
   pub circuit : Circuit groups edges l
-  pub lowest : (g h : ℕ) → get_elem? l 0 ≡ some g → h ∈ l → g ≤ h
+  pub lowest : (g h : ℕ) → slice_get l 0 ≡ Some g → h ∈ l → g ≤ h
   pub fewest : (walk : List ℕ) → Closed edges walk → length l ≤ length walk
   pub first : (walk : List ℕ) → Closed edges walk → length walk ≡ length l → ComesFirst l walk
 
-distinct_places : (l : List ℕ) → ((i j x : ℕ) → i < j → get_elem? l i ≡ some x → ¬ (get_elem? l j ≡ some x)) → Distinct l
+distinct_places : (l : List ℕ) → ((i j x : ℕ) → i < j → slice_get l i ≡ Some x → ¬ (slice_get l j ≡ Some x)) → Distinct l
 distinct_places [] h = tt
 distinct_places (x ∷ l) h =
     ((λ m. let (j, p) = position m in h 0 (suc j) x (omega arith) refl p), distinct_places l (λ i j y b p q. h (suc i) (suc j) y (omega arith) p q))
@@ -53,14 +54,14 @@ module _ (groups : List ℕ) (edges : List Edge) (starts : Starts groups edges) 
   starts_inside low (step a w) = starts _ a
 
   -- From each of its places to a later one, and round to the end.
-  between : (i j d : ℕ) {a b : ℕ} → get_elem? round i ≡ some a → get_elem? round j ≡ some b → j ≡ i + d → Walk edges d a b
+  between : (i j d : ℕ) {a b : ℕ} → slice_get round i ≡ Some a → slice_get round j ≡ Some b → j ≡ i + d → Walk edges d a b
   between = walk_between edges g (front.rest ++ g ∷ []) front.along
 
-  ends : get_elem? round (suc n) ≡ some g
-  ends = subst (λ (k : ℕ). get_elem? (front.rest ++ g ∷ []) k ≡ some g) front.long (split_at front.rest g [])
+  ends : slice_get round (suc n) ≡ Some g
+  ends = subst (λ (k : ℕ). slice_get (front.rest ++ g ∷ []) k ≡ Some g) front.long (split_at front.rest g [])
 
-  placed : {y : ℕ} (i : ℕ) → get_elem? (g ∷ front.rest) i ≡ some y → (i < suc n) × (get_elem? round i ≡ some y)
-  placed i p = (omega (arith, get_elem?_bound (g ∷ front.rest) i p, front.long), get_elem?_front (g ∷ front.rest) (g ∷ []) i p)
+  placed : {y : ℕ} (i : ℕ) → slice_get (g ∷ front.rest) i ≡ Some y → (i < suc n) × (slice_get round i ≡ Some y)
+  placed i p = (omega (arith, slice_get_bound (g ∷ front.rest) i p, front.long), slice_get_front (g ∷ front.rest) (g ∷ []) i p)
 
   -- Each of its groups closes a walk as long: on to the end, then round to it.
   turns_round : (y : ℕ) → y ∈ g ∷ front.rest → Walk edges (suc n) y y
@@ -115,7 +116,7 @@ module _ (groups : List ℕ) (edges : List Edge) (starts : Starts groups edges) 
 -- Among groups that rise, along arrows that come from them, where some walk of no more groups than there are closes.
 module _ (groups : List ℕ) (edges : List Edge) (rising : Rising groups) (starts : Starts groups edges)
     (walk : List ℕ) (closes : Closed edges walk) (short : length walk ≤ length groups) where
-  from_closest : (n : ℕ) (c : Closing) → c.arrows ≡ suc n → Closest groups edges c → ShortestAmong groups edges (closed_walk edges (some c))
+  from_closest : (n : ℕ) (c : Closing) → c.arrows ≡ suc n → Closest groups edges c → ShortestAmong groups edges (closed_walk edges (Some c))
   unfolding closed_walk
   from_closest n c e is =
       let same : ◌≡◌ {A = Closing} c (record { group = c.group; arrows = suc n }) = rw (← e) in

@@ -1,13 +1,14 @@
 -- The walk back. Where no group can be taken, an edge leads into each unplaced group, from an unplaced group; so the walk can always step back, and
 -- since its groups are distinct and unplaced it meets one of them again before its turns run out. The walk goes along the edges, so its part up to
 -- the group that is met again is closed. So wherever no group can be taken some walk closes, of no more groups than are left.
+use Rattle.std.specs.Prelude.{Option, Some, None}
+use Rattle.model.proofs.Options.{none-ne-some, some-injective}
 use Prim.Native.Nat.{ℕ, zero, suc, ◌+◌, ◌<◌, min}
 use mathlib.Core.Path.{◌≡◌, refl, sym, ap, ◌∙◌}
 use mathlib.Core.Bool.{true, false≢true}
 use mathlib.Core.List.Memᴰ
 use mathlib.Core.List.{List, [], ◌∷◌, ◌++◌}
 use mathlib.Core.Logic.{◌⊎◌, inl, inr, ⊎_elim}
-use mathlib.Core.Option.{Option, some, none, none-ne-some, some-injective}
 use native.Mathlib.Nat.{min-eq_left, min-eq_right}
 use native.Mathlib.Omega.{arith}
 use lib.Dec.{eqb, leb}
@@ -27,8 +28,8 @@ use Rattle.ordering.proofs.Walks.{along_front, closed_turns}
 -- Of arrows that all come from unplaced groups, the lowest start of one that leads to g.
 unfoldable pub predecessor : ℕ → List Edge → Option ℕ
 unfolding lower
-predecessor g [] = none
-predecessor g (e ∷ edges) = when (eqb e.to g) (λ _. some (lower e.from (predecessor g edges))) (λ _. predecessor g edges)
+predecessor g [] = None
+predecessor g (e ∷ edges) = when (eqb e.to g) (λ _. Some (lower e.from (predecessor g edges))) (λ _. predecessor g edges)
 
 -- The list up to its first g, that one included.
 unfoldable pub up_to_first : ℕ → List ℕ → List ℕ
@@ -36,8 +37,8 @@ up_to_first g [] = []
 up_to_first g (h ∷ walk) = when (eqb h g) (λ _. h ∷ []) (λ _. h ∷ up_to_first g walk)
 
 unfoldable pub step_back : (ℕ → List ℕ) → Option ℕ → List ℕ
-step_back walk none = []
-step_back walk (some h) = walk h
+step_back walk None = []
+step_back walk (Some h) = walk h
 
 -- Back each time to the lowest predecessor, until a group repeats; then the part between the repeats. The walk has its last group first, and each
 -- group of it has an arrow to the one that it was reached from, so this order is along the arrows.
@@ -52,12 +53,12 @@ pub min_either : (a b : ℕ) → (min a b ≡ a) ⊎ (min a b ≡ b)
 min_either a b = decided (leb a b) (λ t. inl (min-eq_left (leb-true a b t))) (λ t. inr (min-eq_right (omega (arith, leb-false a b t))))
 
 -- A predecessor has an edge to the group, and a group with an edge into it has one.
-pub lower_either : (g : ℕ) (o : Option ℕ) → (lower g o ≡ g) ⊎ (o ≡ some (lower g o))
+pub lower_either : (g : ℕ) (o : Option ℕ) → (lower g o ≡ g) ⊎ (o ≡ Some (lower g o))
 unfolding lower
-lower_either g none = inl refl
-lower_either g (some h) = ⊎_elim (λ e. inl e) (λ e. inr (ap some (sym e))) (min_either g h)
+lower_either g None = inl refl
+lower_either g (Some h) = ⊎_elim (λ e. inl e) (λ e. inr (ap Some (sym e))) (min_either g h)
 
-pub predecessor_edge : (g : ℕ) (edges : List Edge) (h : ℕ) → predecessor g edges ≡ some h → h ⟶ g ∈ edges
+pub predecessor_edge : (g : ℕ) (edges : List Edge) (h : ℕ) → predecessor g edges ≡ Some h → h ⟶ g ∈ edges
 unfolding predecessor
 predecessor_edge g [] h e = absurd (none-ne-some _ e)
 predecessor_edge g (d ∷ edges) h e =
@@ -68,11 +69,11 @@ predecessor_edge g (d ∷ edges) h e =
     (λ q. let from : h ≡ d.from = sym low ∙ q in
     let same : ◌≡◌ {A = Edge} (h ⟶ g) d = rw (from, ← to) in
     here same)
-    (λ q. there (predecessor_edge g edges h (q ∙ ap some low)))
+    (λ q. there (predecessor_edge g edges h (q ∙ ap Some low)))
     (lower_either d.from (predecessor g edges)))
     (λ t. there (predecessor_edge g edges h (rw t at e)))
 
-pub has_predecessor : (g : ℕ) (edges : List Edge) → has_edge_into g edges ≡ true → (h : ℕ) × (predecessor g edges ≡ some h)
+pub has_predecessor : (g : ℕ) (edges : List Edge) → has_edge_into g edges ≡ true → (h : ℕ) × (predecessor g edges ≡ Some h)
 unfolding has_edge_into predecessor
 has_predecessor g [] h = absurd (false≢true h)
 has_predecessor g (d ∷ edges) h =
@@ -107,7 +108,7 @@ met_again groups edges walk g d w a m =
     })
 
 -- Where no group can be taken the walk closes.
-module _ (groups : List ℕ) (edges : List Edge) (between : Within groups edges) (stops : first_free edges groups ≡ none) where
+module _ (groups : List ℕ) (edges : List Edge) (between : Within groups edges) (stops : first_free edges groups ≡ None) where
   pub walk_closes : (turns : ℕ) (walk : List ℕ) (g : ℕ) → Distinct walk → ((h : ℕ) → h ∈ walk → h ∈ groups) → g ∈ groups → Along edges g walk →
       length groups < length walk + turns → Circuit groups edges (walk_back turns walk g edges)
   unfolding walk_back

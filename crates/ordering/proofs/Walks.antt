@@ -1,14 +1,15 @@
 -- Walks along the edges, as lists of groups. A closed walk has an edge from each place to the next and from the last to the first, and can be begun
 -- at any of its groups. Whatever holds along every edge and can be chained holds all the way round: so a strict order of the groups leaves no closed
 -- walk.
+use Rattle.std.specs.Prelude.{Some, slice_get}
+use Rattle.model.proofs.Options.{none-ne-some, some-injective}
 use Prim.Native.Nat.{ℕ, zero, suc, ◌≤◌}
 use mathlib.Core.Path.{◌≡◌, refl, sym}
 use mathlib.Core.List.Memᴰ
 use mathlib.Core.List.{List, [], ◌∷◌, ◌++◌}
 use mathlib.Core.Logic.{⊎_elim}
-use mathlib.Core.Option.{some, none-ne-some, some-injective}
 use native.Mathlib.Omega.{arith}
-use lib.ListN.{length, get_elem?}
+use lib.ListN.{length}
 use Rattle.model.specs.HappensBefore.{Edge, ◌⟶◌}
 use Rattle.model.specs.Lists.{◌∈◌}
 use Rattle.model.proofs.Lists.{here}
@@ -39,25 +40,25 @@ closed_more up (g ∷ l) c = along_more up g (l ++ g ∷ []) c
 
 -- Along the edges, from each place to the next; and to the end from the place before it.
 pub along_next : (edges : List Edge) (g : ℕ) (l : List ℕ) → Along edges g l → (i : ℕ) {a b : ℕ} →
-    get_elem? (g ∷ l) i ≡ some a → get_elem? l i ≡ some b → a ⟶ b ∈ edges
+    slice_get (g ∷ l) i ≡ Some a → slice_get l i ≡ Some b → a ⟶ b ∈ edges
 along_next edges g [] w i p q = absurd (none-ne-some _ q)
 along_next edges g (h ∷ l) w zero p q = rw (sym (some-injective _ _ p), sym (some-injective _ _ q)) w.0
 along_next edges g (h ∷ l) w (suc i) p q = along_next edges h l w.1 i p q
 
 pub along_end : (edges : List Edge) (g : ℕ) (l : List ℕ) (x : ℕ) → Along edges g (l ++ x ∷ []) → (i : ℕ) {a : ℕ} → i ≡ length l →
-    get_elem? (g ∷ l) i ≡ some a → a ⟶ x ∈ edges
+    slice_get (g ∷ l) i ≡ Some a → a ⟶ x ∈ edges
 along_end edges g [] x w zero e p = rw (sym (some-injective _ _ p)) w.0
 along_end edges g [] x w (suc i) e p = absurd (omega arith)
 along_end edges g (h ∷ l) x w zero e p = absurd (omega arith)
 along_end edges g (h ∷ l) x w (suc i) e p = along_end edges h l x w.1 i (omega arith) p
 
-pub closed_next : (edges : List Edge) (l : List ℕ) → Closed edges l → (i : ℕ) {a b : ℕ} → get_elem? l i ≡ some a → get_elem? l (suc i) ≡ some b →
+pub closed_next : (edges : List Edge) (l : List ℕ) → Closed edges l → (i : ℕ) {a b : ℕ} → slice_get l i ≡ Some a → slice_get l (suc i) ≡ Some b →
     a ⟶ b ∈ edges
 closed_next edges [] c i p q = absurd c
 closed_next edges (g ∷ l) c i p q = along_next edges g l (along_front edges g l (g ∷ []) c) i p q
 
-pub closed_back : (edges : List Edge) (l : List ℕ) → Closed edges l → (i : ℕ) {a b : ℕ} → suc i ≡ length l → get_elem? l i ≡ some a →
-    get_elem? l 0 ≡ some b → a ⟶ b ∈ edges
+pub closed_back : (edges : List Edge) (l : List ℕ) → Closed edges l → (i : ℕ) {a b : ℕ} → suc i ≡ length l → slice_get l i ≡ Some a →
+    slice_get l 0 ≡ Some b → a ⟶ b ∈ edges
 closed_back edges [] c i e p q = absurd c
 closed_back edges (g ∷ l) c i e p q = rw (sym (some-injective _ _ q)) (along_end edges g l g c i (omega arith) p)
 

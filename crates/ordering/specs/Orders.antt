@@ -1,7 +1,5 @@
 -- What an order and a cycle of the groups are, said by places and apart from how they are found.
-use Rattle.std.specs.Prelude.{ℕ, suc, ◌≤◌, ◌<◌, ◌≡◌, List, [], ◌∷◌, length}
-use Rattle.std.proofs.Math.Option.{some}
-use Rattle.std.proofs.Math.ListN.{get_elem?}
+use Rattle.std.specs.Prelude.{ℕ, suc, ◌≤◌, ◌<◌, ◌≡◌, List, [], ◌∷◌, length, Some, slice_get}
 use Rattle.model.specs.Lists.{◌∈◌, Distinct, Precedes}
 use Rattle.model.specs.HappensBefore.{Edge, ◌⟶◌}
 use Rattle.ordering.specs.Walks.{Closed}
@@ -25,9 +23,9 @@ pub record Cycle (groups : ℕ) (edges : List Edge) (l : List ℕ) : Type 0 wher
   pub two : 2 ≤ length l
   pub below : (g : ℕ) → g ∈ l → g < groups
   pub once : Distinct l
-  pub next : (i g h : ℕ) → get_elem? l i ≡ some g → get_elem? l (suc i) ≡ some h → g ⟶ h ∈ edges
-  pub back : (i g h : ℕ) → suc i ≡ length l → get_elem? l i ≡ some g → get_elem? l 0 ≡ some h → g ⟶ h ∈ edges
-  pub lowest : (g h : ℕ) → get_elem? l 0 ≡ some g → h ∈ l → g ≤ h
+  pub next : (i g h : ℕ) → slice_get l i ≡ Some g → slice_get l (suc i) ≡ Some h → g ⟶ h ∈ edges
+  pub back : (i g h : ℕ) → suc i ≡ length l → slice_get l i ≡ Some g → slice_get l 0 ≡ Some h → g ⟶ h ∈ edges
+  pub lowest : (g h : ℕ) → slice_get l 0 ≡ Some g → h ∈ l → g ≤ h
 
 -- l comes before m when they are compared place by place, or is m.
 pub data ComesFirst : List ℕ → List ℕ → Type 0 where

@@ -1,10 +1,10 @@
 -- What a placing leaves, told by the counts alone: a group is left exactly if an arrow of those left leads into it. Those left that no arrow led into
 -- could have been taken; and an arrow from a group left leads to one left, since its end cannot be placed before its start.
+use Rattle.std.specs.Prelude.{Some, None}
 use Prim.Native.Nat.{ℕ, ◌+◌, ◌≤◌, ◌<◌}
 use mathlib.Core.Path.{◌≡◌, refl, sym, ap, ◌∙◌}
 use mathlib.Core.Bool.{Bool, not, true≢false}
 use mathlib.Core.List.{List, [], ◌∷◌}
-use mathlib.Core.Option.{some, none}
 use native.Mathlib.Omega.{arith}
 use lib.Dec.{eqb, ltb}
 use lib.ListN.{length}
@@ -41,11 +41,11 @@ module _ (n : ℕ) (edges : List Edge) where
   abbrev Selecting : List ℕ → List Edge → Placing → Type 0
   Selecting groups arrows p = (left : ℕ → Bool) → groups ≡ select left (numbers_from 0 n) → arrows ≡ edges_out left edges → Selects n edges p
 
-  selects_stuck : (groups : List ℕ) (arrows : List Edge) → first_free arrows groups ≡ none → Selecting groups arrows (stuck groups arrows)
+  selects_stuck : (groups : List ℕ) (arrows : List Edge) → first_free arrows groups ≡ None → Selecting groups arrows (stuck groups arrows)
   unfolding stuck
   selects_stuck groups arrows h left g a = record { left = left; unplaced_is = g; edges_is = a }
 
-  selects_taken : (groups : List ℕ) (arrows : List Edge) (g : ℕ) (rest : Placing) → first_free arrows groups ≡ some g →
+  selects_taken : (groups : List ℕ) (arrows : List Edge) (g : ℕ) (rest : Placing) → first_free arrows groups ≡ Some g →
       Selecting (without g groups) (not_from g arrows) rest →
       Selecting groups arrows (record { placed = g ∷ rest.placed; unplaced = rest.unplaced; edges = rest.edges })
   selects_taken groups arrows g rest h later left same_groups same_arrows =
@@ -78,12 +78,12 @@ module _ (n : ℕ) (edges : List Edge) (between : AllAmong n edges) where
       ∙ sym (none_free (all_placed n edges).edges (all_placed n edges).unplaced facts.nothing_free g here)
       ∙ into_counted g (all_placed n edges).edges)
       (λ t.
-      let none : in_degree (all_placed n edges).edges g ≡ 0 =
+      let None : in_degree (all_placed n edges).edges g ≡ 0 =
       into_none g (all_placed n edges).edges
       (λ e m q.
       let end : g ∈ (all_placed n edges).unplaced = rw (← q) (facts.left_within e m).1 in
       true≢false (sym (select_within selection.left (numbers_from 0 n) (rw selection.unplaced_is at end)).1 ∙ t)) in
-      t ∙ ap not (sym (eq-eqb (in_degree (all_placed n edges).edges g) 0 none)))
+      t ∙ ap not (sym (eq-eqb (in_degree (all_placed n edges).edges g) 0 None)))
 
   pub left_waiting : (all_placed n edges).unplaced ≡ select (waits (all_placed n edges).edges) (numbers_from 0 n)
   left_waiting =

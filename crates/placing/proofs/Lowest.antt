@@ -1,9 +1,9 @@
 -- Groups that stand rising, as a set selects them: the first into which no edge leads is the lowest, and one taken out leaves the set without it.
+use Rattle.std.specs.Prelude.{Some, None}
 use Prim.Native.Nat.{ℕ, zero, suc, ◌+◌, ◌≤◌, ◌<◌}
 use mathlib.Core.Path.{◌≡◌, refl, sym, ap, ◌∙◌}
 use mathlib.Core.Bool.{Bool, true, false, ◌&&◌, false≢true}
 use mathlib.Core.List.{List, ◌∷◌}
-use mathlib.Core.Option.{some, none}
 use native.Mathlib.Omega.{arith}
 use lib.Dec.{eqb}
 use borrow.Author.Tests.{ne_eqb, eqb-true, eqb-false}
@@ -33,7 +33,7 @@ module _ (left : ℕ → Bool) (edges : List Edge) where
       rw (select_yes left g rest t, into_counted g edges, counted))
       (λ t. rw (select_no left g rest t))
 
-  first_taken : (g : ℕ) (rest : List ℕ) → free left edges g ≡ true → first_free edges (select left (g ∷ rest)) ≡ some g
+  first_taken : (g : ℕ) (rest : List ℕ) → free left edges g ≡ true → first_free edges (select left (g ∷ rest)) ≡ Some g
   unfolding first_free
   first_taken g rest h =
       decided (left g)
@@ -44,7 +44,7 @@ module _ (left : ℕ → Bool) (edges : List Edge) where
 
   -- None of the numbers is free.
   pub first_none : (first count : ℕ) → ((g : ℕ) → first ≤ g → g < first + count → free left edges g ≡ false) →
-      first_free edges (select left (numbers_from first count)) ≡ none
+      first_free edges (select left (numbers_from first count)) ≡ None
   unfolding numbers_from select first_free
   first_none first zero h = refl
   first_none first (suc count) h =
@@ -53,14 +53,14 @@ module _ (left : ℕ → Bool) (edges : List Edge) where
 
   -- The lowest that is free is the first.
   pub first_lowest : (first count g : ℕ) → first ≤ g → g < first + count → free left edges g ≡ true →
-      ((h : ℕ) → h < g → free left edges h ≡ false) → first_free edges (select left (numbers_from first count)) ≡ some g
+      ((h : ℕ) → h < g → free left edges h ≡ false) → first_free edges (select left (numbers_from first count)) ≡ Some g
   unfolding numbers_from
   first_lowest first zero g p q is least = absurd (omega arith)
   first_lowest first (suc count) g p q is least =
       decided (eqb first g)
       (λ t.
       let e : first ≡ g = eqb-true first g t in
-      first_taken first (numbers_from (first + 1) count) (ap (free left edges) e ∙ is) ∙ ap some e)
+      first_taken first (numbers_from (first + 1) count) (ap (free left edges) e ∙ is) ∙ ap Some e)
       (λ t.
       let ne : ¬ (first ≡ g) = eqb-false first g t in
       first_passed first (numbers_from (first + 1) count) (least first (omega arith))

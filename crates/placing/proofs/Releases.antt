@@ -12,7 +12,8 @@ use Rattle.memory.specs.Tables.{Table}
 use Rattle.graph.specs.Edges.{target_at}
 use Rattle.model.proofs.Lists.{here, there}
 use Rattle.indexing.specs.Indexed.{count_into}
-use Rattle.placing.specs.Releases.{Counts, released_edges}
+use Rattle.placing.specs.declared.counts.Counts.{Counts}
+use Rattle.placing.specs.Releases.{released_edges}
 use Rattle.placing.specs.Standing.{Stands}
 use Rattle.placing.proofs.Stands.{stands_same, stands_released}
 

@@ -1,10 +1,10 @@
 -- One turn on arrays is one turn of the definition: the lowest ready group is the first that is free, and its arrows are those that go with it. So
 -- all turns are.
+use Rattle.std.specs.Prelude.{Option, Some, None}
 use Prim.Native.Nat.{ℕ, zero, suc, ◌+◌, ◌≤◌, ◌<◌}
 use mathlib.Core.Path.{◌≡◌, refl, sym, ◌∙◌}
 use mathlib.Core.Bool.{Bool, true, not}
 use mathlib.Core.List.{List, [], ◌∷◌, ◌++◌, append-nil, append_assoc}
-use mathlib.Core.Option.{Option, some, none}
 use native.Mathlib.Omega.{arith}
 use lib.Dec.{eqb}
 use lib.ListN.{length, length-append}
@@ -24,7 +24,8 @@ use Rattle.indexing.specs.Indexed.{ListsBy, graph_to, in_graph, numbers_out, cou
 use Rattle.indexing.proofs.ByKey.{members_by}
 use Rattle.indexing.proofs.Lists.{list_counts, list_within}
 use Rattle.placing.specs.declared.Placed.{Placed}
-use Rattle.placing.specs.Releases.{Counts, counts, released_edges, edges_from_group}
+use Rattle.placing.specs.declared.counts.Counts.{Counts}
+use Rattle.placing.specs.Releases.{counts, released_edges, edges_from_group}
 use Rattle.placing.specs.Turns.{placed, noted, take_next, place_on}
 use Rattle.placing.specs.Standing.{Stands}
 use Rattle.bitmap.proofs.Holding.{lowest_none, lowest_some}
@@ -54,7 +55,7 @@ module _ (n : ℕ) (b : n ≤ max_items) (table : Table) (count : ℕ) (heads li
 
     module _ {left : ℕ → Bool} {c : Counts} (s : Stands left (in_degree (edges_out left graph)) c) where
       -- A group is taken, and its arrows with it.
-      module _ (g : ℕ) (lowest : lowest_in c.ready ≡ some g) where
+      module _ (g : ℕ) (lowest : lowest_in c.ready ≡ Some g) where
         split : (h : ℕ) → in_degree (edges_out left graph) h ≡ in_degree (edges_out (but left g) graph) h + count_into table (numbers_out n table count g) h
         split h =
             degree_parts g h (edges_out left graph)
@@ -69,13 +70,13 @@ module _ (n : ℕ) (b : n ≤ max_items) (table : Table) (count : ℕ) (heads li
             (λ e m. let below = list_within n table count g e m in omega (arith, below))
             (stands_same split (stands_taken s g lowest)))
 
-        first_is : ((h : ℕ) → left h ≡ true → h < n) → first_free (edges_out left graph) (unplaced left) ≡ some g
+        first_is : ((h : ℕ) → left h ≡ true → h < n) → first_free (edges_out left graph) (unplaced left) ≡ Some g
         first_is within =
             let is : IsLowest _ g = lowest_some s.holds lowest in
             let below : g < n = within g (taken_free s g lowest).0 in
             first_lowest left (edges_out left graph) 0 n g (omega arith) (omega (arith, below)) is.is is.least
 
-      no_first : lowest_in c.ready ≡ none → first_free (edges_out left graph) (unplaced left) ≡ none
+      no_first : lowest_in c.ready ≡ None → first_free (edges_out left graph) (unplaced left) ≡ None
       no_first empty =
           first_none left (edges_out left graph) 0 n (λ g p q. lowest_none s.holds empty g (omega (arith, q, b)))
 
@@ -111,7 +112,7 @@ module _ (n : ℕ) (b : n ≤ max_items) (table : Table) (count : ℕ) (heads li
         abbrev taken_by : ℕ → Placing
         taken_by g = place turns (without g (unplaced left)) (not_from g (edges_out left graph))
 
-        rest_placed : (g : ℕ) → lowest_in c.ready ≡ some g → taken_on g ≡ finished (front ++ g ∷ []) zeros (taken_by g)
+        rest_placed : (g : ℕ) → lowest_in c.ready ≡ Some g → taken_on g ≡ finished (front ++ g ∷ []) zeros (taken_by g)
         rest_placed g lowest =
             let e : length front + 1 ≡ length (front ++ g ∷ []) = sym (length-append front (g ∷ [])) in
             rw (noted_fills front zeros g room (omega (arith, fits)), e, without_but left g 0 n, edges_but left g graph)
@@ -129,8 +130,8 @@ module _ (n : ℕ) (b : n ≤ max_items) (table : Table) (count : ℕ) (heads li
             take_next (placed (length front) (fill front zeros) c.waiting) taken_on o ≡
             finished front zeros (place_next (unplaced left) (edges_out left graph) taken_by (first_free (edges_out left graph) (unplaced left)))
         unfolding take_next place_next
-        turn none empty = rw (no_first s empty) (ends left front c s)
-        turn (some g) lowest = rw (first_is s g lowest within) (rest_placed g lowest ∙ rest_behind g (taken_by g))
+        turn None empty = rw (no_first s empty) (ends left front c s)
+        turn (Some g) lowest = rw (first_is s g lowest within) (rest_placed g lowest ∙ rest_behind g (taken_by g))
 
         next_turn : place_on table heads links (suc turns) (length front) (fill front zeros) c ≡
             finished front zeros (place (suc turns) (unplaced left) (edges_out left graph))

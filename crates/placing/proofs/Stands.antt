@@ -1,9 +1,9 @@
 -- Counts and ready groups go together: a group that is taken is no longer left, and one arrow fewer into a group makes it ready where it was the
 -- last.
+use Rattle.std.specs.Prelude.{Some}
 use Prim.Native.Nat.{ℕ, suc, ◌-◌, ◌≤◌, ◌<◌}
 use mathlib.Core.Path.{◌≡◌, refl, ap, ◌∙◌}
 use mathlib.Core.Bool.{Bool, true, false, not, ◌&&◌}
-use mathlib.Core.Option.{some}
 use native.Mathlib.Omega.{arith}
 use lib.Dec.{eqb}
 use lib.ListN.{get_or, set}
@@ -15,7 +15,8 @@ use Rattle.bitmap.specs.Bitmaps.{Holds, inserted, lowest_in, lowest_taken}
 use Rattle.bitmap.proofs.Holding.{same_holds, insert_holds, lowest_some, taken_holds}
 use Rattle.indexing.specs.Degrees.{by_group}
 use Rattle.indexing.proofs.ByGroup.{group_at, group_set, group_same}
-use Rattle.placing.specs.Releases.{Counts, counts, released}
+use Rattle.placing.specs.declared.counts.Counts.{Counts}
+use Rattle.placing.specs.Releases.{counts, released}
 use Rattle.placing.specs.Standing.{Stands}
 use Rattle.placing.proofs.Degrees.{but}
 
@@ -30,7 +31,7 @@ stands_same {left} {degree} {degree'} same s =
     }
 
 -- The lowest ready group is taken.
-module _ {left : ℕ → Bool} {degree : ℕ → ℕ} {c : Counts} (s : Stands left degree c) (g : ℕ) (lowest : lowest_in c.ready ≡ some g) where
+module _ {left : ℕ → Bool} {degree : ℕ → ℕ} {c : Counts} (s : Stands left degree c) (g : ℕ) (lowest : lowest_in c.ready ≡ Some g) where
   pub taken_free : (left g ≡ true) × (eqb (degree g) 0 ≡ true)
   taken_free = and-true (left g) (eqb (degree g) 0) (lowest_some s.holds lowest).is
 

@@ -22,7 +22,8 @@ use Rattle.graph.specs.Edges.{groups_in, among, graph_in}
 use Rattle.graph.proofs.Edges.{selected_among, groups_bound}
 use Rattle.model.proofs.Lists.{at_position, numbers_from_bounds}
 use Rattle.indexing.specs.Degrees.{in_degree, in_degrees}
-use Rattle.indexing.specs.Indexes.{Index, empty_index, indexed, readied_all}
+use Rattle.indexing.specs.declared.Index.{Index}
+use Rattle.indexing.specs.Indexes.{empty_index, indexed, readied_all}
 use Rattle.indexing.specs.Indexed.{Indexed, graph_to}
 use Rattle.indexing.proofs.Ready.{ready_holds}
 use Rattle.indexing.proofs.Indexes.{all_indexed}

@@ -7,12 +7,9 @@ use Rattle.chains.specs.Chains.{members}
 use Rattle.bitmap.specs.Bitmaps.{inserted}
 use Rattle.graph.specs.Edges.{target_at}
 use Rattle.indexing.specs.Entries.{entry_at}
+use Rattle.placing.specs.declared.counts.Counts.{Counts}
 
 -- How many arrows each group waits for, and the groups that can be placed.
-pub record Counts : Type 0 where
-  pub waiting : List ℕ
-  pub ready : List ℕ
-
 abbrev pub counts : (waiting ready : List ℕ) → Counts
 counts waiting ready = record { waiting = waiting; ready = ready }
 

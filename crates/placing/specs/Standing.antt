@@ -2,7 +2,7 @@
 use Rattle.std.specs.Prelude.{ℕ, ◌<◌, ◌≡◌, Bool, true, ◌&&◌, eqb}
 use Rattle.bitmap.specs.Bitmaps.{Holds}
 use Rattle.indexing.specs.Degrees.{by_group}
-use Rattle.placing.specs.Releases.{Counts}
+use Rattle.placing.specs.declared.counts.Counts.{Counts}
 
 -- The counts are a function's, those groups left are ready whose count is 0, and a group that waits is one of those left.
 pub record Stands (left : ℕ → Bool) (degree : ℕ → ℕ) (c : Counts) : Type 0 where

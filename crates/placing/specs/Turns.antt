@@ -1,13 +1,14 @@
 -- The placing on arrays, turn by turn.
-use Rattle.std.specs.Prelude.{ℕ, zero, suc, ◌+◌, List, ltb, set, replicate}
-use Rattle.std.proofs.Math.Option.{Option, some, none}
+use Rattle.std.specs.Prelude.{ℕ, zero, suc, ◌+◌, List, ltb, set, replicate, Option, Some, None}
 use Rattle.model.specs.Limits.{max_items}
 use Rattle.model.specs.Choice.{when, numbers_from}
 use Rattle.memory.specs.Tables.{Table}
 use Rattle.bitmap.specs.Bitmaps.{empty_bitmap, lowest_in, lowest_taken}
-use Rattle.indexing.specs.Indexes.{Index, empty_index, indexed, readied_all}
+use Rattle.indexing.specs.declared.Index.{Index}
+use Rattle.indexing.specs.Indexes.{empty_index, indexed, readied_all}
 use Rattle.placing.specs.declared.Placed.{Placed}
-use Rattle.placing.specs.Releases.{Counts, counts, released_edges, edges_from_group}
+use Rattle.placing.specs.declared.counts.Counts.{Counts}
+use Rattle.placing.specs.Releases.{counts, released_edges, edges_from_group}
 
 -- What is placed so far.
 abbrev pub placed : (count : ℕ) → (order waiting : List ℕ) → Placed
@@ -19,8 +20,8 @@ noted order count group = when (ltb count max_items) (λ _. set order count grou
 
 -- A group that is ready is taken, if there is one.
 unfoldable pub take_next : (stop : Placed) → (after : ℕ → Placed) → Option ℕ → Placed
-take_next stop after none = stop
-take_next stop after (some group) = after group
+take_next stop after None = stop
+take_next stop after (Some group) = after group
 
 -- "each time .. take the lowest number", at most `turns` times.
 unfoldable pub place_on : Table → (heads links : List ℕ) → (turns count : ℕ) → (order : List ℕ) → Counts → Placed

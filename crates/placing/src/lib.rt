@@ -2,7 +2,7 @@
 // group and each arrow is looked at a constant number of times.
 #![tactic(auto)]
 
-mod releasing;
+mod counts;
 mod turns;
 
 ghost use Rattle.std.specs.Prelude.{◌≡◌};
@@ -11,11 +11,11 @@ ghost use Rattle.model.specs.Orders as orders;
 ghost use Rattle.graph.specs.Edges.{groups_in, graph_in};
 ghost use Rattle.placing.specs.Placed.{placed_as};
 
+use crate::counts::Counts;
 use crate::turns::place_ready;
 use bitmap::BITMAP;
-use graph::{EDGES, Edges, Groups, groups_in};
-use indexing::{find_ready, index_edges};
-use model::ITEMS;
+use graph::{Drawn, Groups, groups_in};
+use indexing::Index;
 
 // How many groups are placed, the groups in their order, and for each group how many arrows from unplaced groups lead into it.
 #[derive(Clone, Copy)]
@@ -25,30 +25,17 @@ pub struct Placed {
     pub waiting: Groups,
 }
 
-// The groups below `groups`, with those of the first `count` arrows that are between them.
-pub fn place(groups: u16, edges: &Edges, count: usize) -> Placed
-    ensures { result ≡ placed_as (orders.place (groups_in groups) (numbers_from 0 (groups_in groups)) (graph_in groups count edges.now)) }
+// The groups below `groups`, with those of the arrows that are between them.
+pub fn place(groups: u16, drawn: &Drawn) -> Placed
+    ensures { result ≡ placed_as (orders.place (groups_in groups) (numbers_from 0 (groups_in groups)) (graph_in groups drawn.now.count drawn.now.edges)) }
 {
     let all = groups_in(groups);
-    let mut heads = [0; ITEMS];
-    let mut links = [0; EDGES];
-    let mut waiting = [0; ITEMS];
-    let mut ready = [0; BITMAP];
-    let mut order = [0; ITEMS];
-    index_edges(all, edges, count, &mut heads, &mut links, &mut waiting);
-    find_ready(all, &waiting, &mut ready);
-    let placed = place_ready(
-        all,
-        edges,
-        &heads,
-        &links,
-        &mut waiting,
-        &mut ready,
-        &mut order,
-    );
-    Placed {
-        count: placed,
-        order: order,
-        waiting: waiting,
-    }
+    let mut index = Index::none();
+    index.note_all(all, drawn);
+    let mut counts = Counts {
+        waiting: index.waiting,
+        ready: [0; BITMAP],
+    };
+    index.find_ready(all, &mut counts.ready);
+    place_ready(all, &drawn.edges, &index, &mut counts)
 }

@@ -1,15 +1,17 @@
 // The turns of the placing.
-ghost use Rattle.std.specs.Prelude.{◌≡◌};
-ghost use Rattle.placing.specs.Releases.{counts};
-ghost use Rattle.placing.specs.Turns.{placed, noted, place_on};
+ghost use Rattle.std.specs.Prelude.{◌≡◌, replicate};
+ghost use Rattle.model.specs.Limits.{max_items};
+ghost use Rattle.placing.specs.Turns.{noted, place_on};
 
-use crate::releasing::release;
-use bitmap::{Bitmap, Lowest, take_lowest};
+use crate::Placed;
+use crate::counts::Counts;
+use bitmap::take_lowest;
 use graph::{Edges, Groups};
-use indexing::Links;
+use indexing::Index;
 use model::ITEMS;
 
 // Puts a group behind the first `count` of a list.
+#[tactic(auto, unfolding(crate::specs::Turns::noted))]
 fn note(order: &mut Groups, count: usize, group: u16)
     ensures { order.new ≡ noted order.old count group }
 {
@@ -18,30 +20,30 @@ fn note(order: &mut Groups, count: usize, group: u16)
     }
 }
 
-// Takes the lowest group that is ready and releases what waits for it, until none is ready or all are placed; answers how many are placed.
-pub fn place_ready(
-    groups: usize,
-    edges: &Edges,
-    heads: &Groups,
-    links: &Links,
-    waiting: &mut Groups,
-    ready: &mut Bitmap,
-    order: &mut Groups,
-) -> usize
-    ensures { placed result order.new waiting.new ≡
-        place_on edges.now heads.now links.now groups 0 order.old
-        (counts waiting.old ready.old) }
+// Takes the lowest group that is ready and releases what waits for it, until none is ready or all are placed.
+pub fn place_ready(groups: usize, edges: &Edges, index: &Index, counts: &mut Counts) -> Placed
+    ensures { result ≡
+        place_on edges.now index.now.heads index.now.links groups 0 (replicate max_items 0) counts.old }
 {
-    let mut count = 0;
-    while count < groups {
-        match take_lowest(ready) {
-            Lowest::Empty => return count,
-            Lowest::Number(group) => {
-                note(order, count, group);
-                release(edges, heads, links, group, waiting, ready);
-                count += 1;
+    let mut order = [0; ITEMS];
+    for count in 0..groups {
+        match take_lowest(&mut counts.ready) {
+            None => {
+                return Placed {
+                    count,
+                    order,
+                    waiting: counts.waiting,
+                };
+            }
+            Some(group) => {
+                note(&mut order, count, group);
+                counts.release(edges, index, group);
             }
         }
     }
-    count
+    Placed {
+        count: groups,
+        order,
+        waiting: counts.waiting,
+    }
 }

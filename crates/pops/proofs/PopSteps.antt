@@ -1,9 +1,9 @@
 -- A pop on arrays that stand for a state, against the definition's. An item that agrees with its access names the cell that is read or written, and
 -- the record has only cells that the arrays have.
+use Rattle.std.specs.Prelude.{Option, Some}
 use Prim.Native.Nat.{ℕ, ◌<◌}
 use mathlib.Core.Path.{◌≡◌, refl, ap, ◌∙◌}
 use mathlib.Core.Bool.{Bool, true, false}
-use mathlib.Core.Option.{Option, some}
 use native.Mathlib.Omega.{arith}
 use lib.Dec.{eqb}
 use borrow.Author.Tests.{eqb-true}
@@ -15,7 +15,7 @@ use Rattle.model.specs.Replay.{Origin, Replay, Taken, request_for, delivery_for,
 use Rattle.model.specs.Replay.{agreed, after_fetch, after_delivery, take_fetch, take_delivery}
 use Rattle.model.proofs.Laws.{decided, and-true}
 use Rattle.memory.specs.Tables.{Rank, Place, cells_size, stored}
-use Rattle.links.specs.declared.Oldest.{Oldest}
+use Rattle.links.specs.declared.Position.{Position}
 use Rattle.entries.specs.Entries.{request_at, delivery_at}
 use Rattle.queues.specs.Queued.{bare_request, bare_delivery}
 use Rattle.queues.specs.Transfers.{fetched, delivered}
@@ -51,7 +51,7 @@ module _ (m : Memory) (p : Progress) (s : Replay) (i : Item) (stands : Standing 
       (λ t. let held = placed a t in rw (stands.holds.cells.same a.rank a.cell held.rank_held held.cell_held))
       (λ t. rw t)
 
-  agreed_place : (writes : Bool) (a : Address) (v : ℕ) → agrees_with i (some (record { writes = writes; address = a; value = v })) ≡ true → Place a
+  agreed_place : (writes : Bool) (a : Address) (v : ℕ) → agrees_with i (Some (record { writes = writes; address = a; value = v })) ≡ true → Place a
   unfolding agrees_with
   agreed_place writes a v h = placed a (and-true (same_address i.place a) (agrees i.given v) h).0
 
@@ -138,14 +138,14 @@ module _ (m : Memory) (p : Progress) (s : Replay) (i : Item) (stands : Standing 
         together_agreed p.at m (after_delivery s i b w.rest) (write_of b.destination b.value) _ refl delivery_follows
 
   -- The entry that the code finds is the one that the definition chooses.
-  fetch_by : {o : Oldest} → RequestTold stands.holds.queues i r q o →
+  fetch_by : {o : Option Position} → RequestTold stands.holds.queues i r q o →
       Together p.at m (take_fetch s p.at i (oldest (request_for i) (s.machine.requests i.rank i.queue)))
       (popped_on p.at (λ position. fetched_on i p position (request_at m.queues.pool position.entry) m) o)
   unfolding take_fetch
   fetch_by (none_waits chosen) = rw chosen refl
   fetch_by (one_waits w) = rw (w.chosen, w.reads) (fetched_together w)
 
-  delivery_by : {o : Oldest} → DeliveryTold stands.holds.queues i r q o →
+  delivery_by : {o : Option Position} → DeliveryTold stands.holds.queues i r q o →
       Together p.at m (take_delivery s p.at i (oldest (delivery_for i) (s.machine.deliveries i.rank i.queue)))
       (popped_on p.at (λ position. delivered_on i p position (delivery_at m.queues.pool position.entry) m) o)
   unfolding take_delivery

@@ -1,5 +1,5 @@
 -- The pops on arrays: what the code makes of them, test by test as the definition's step. Nothing is asked of the arrays here.
-use Rattle.std.specs.Prelude.{ℕ}
+use Rattle.std.specs.Prelude.{ℕ, Option, Some, None}
 use Rattle.model.specs.declared.Item.{Item}
 use Rattle.model.specs.Refusals.{Result, refuse, empty_queue}
 use Rattle.model.specs.Machine.{read_of, write_of, cell_at}
@@ -7,8 +7,6 @@ use Rattle.memory.specs.Tables.{cells_size, stored}
 use Rattle.entries.specs.declared.Request.{Request}
 use Rattle.entries.specs.declared.Delivery.{Delivery}
 use Rattle.links.specs.declared.Position.{Position}
-use Rattle.links.specs.declared.Oldest.{Oldest}
-use Rattle.links.specs.declared.Oldest.TheVariants.{Entry, Empty}
 use Rattle.links.specs.declared.Part.TheVariants.{Requests, Deliveries}
 use Rattle.entries.specs.Entries.{request_at, delivery_at}
 use Rattle.links.specs.Lists.{oldest_in}
@@ -47,9 +45,9 @@ delivered_on i p position b m =
     })
 
 -- A pop takes the oldest entry of those that it chooses among, if there is one.
-abbrev pub popped_on : (at : ℕ) → (Position → Result Left) → Oldest → Result Left
-popped_on at pop Empty = refuse empty_queue at
-popped_on at pop (Entry position) = pop position
+abbrev pub popped_on : (at : ℕ) → (Position → Result Left) → Option Position → Result Left
+popped_on at pop None = refuse empty_queue at
+popped_on at pop (Some position) = pop position
 
 abbrev pub fetch_on : Item → Progress → Memory → Result Left
 fetch_on i p m =

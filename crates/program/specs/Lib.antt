@@ -1,3 +1,2 @@
--- What the readers answer, by the definitions of `model`: headers and programs.
-pub mod Headers
+-- What the reader of programs answers, by the definitions of `model`.
 pub mod Starts

@@ -1,16 +1,14 @@
 -- The program reader with the starts of the transitions in the place of the transitions: `program_reader`, whose transitions give where they begin.
+use Rattle.model.specs.declared.Found.{Found}
 use Rattle.std.specs.Prelude.{ℕ, ◌-◌, ◌≤◌, ◌≡◌, List, ◌++◌, eqb, length, replicate}
 use Rattle.model.specs.declared.Header.{Header}
-use Rattle.model.specs.declared.Refusal.{Refusal}
 use Rattle.model.specs.Limits.{max_header_bytes, max_transitions}
 use Rattle.model.specs.Refusals as Refusals
-use Rattle.model.specs.Refusals.{Result, ok, refused, refuse, program_length}
+use Rattle.model.specs.Refusals.{Result, Ok, Err, refuse, program_length}
 use Rattle.model.specs.Choice.{when}
-use Rattle.model.specs.Bytes.{Found, Reader, ◌>>=◌, pure, here, times, whole}
-use Rattle.model.specs.Programs.{Program, read_header_in, read_header, read_program, read_transition}
-use Rattle.program.specs.declared.reader.ReadAnswer as ReadAnswer
-use Rattle.program.specs.declared.reader.ReadAnswer.{ReadAnswer}
-use Rattle.program.specs.declared.reader.ProgramRead.{ProgramRead}
+use Rattle.model.specs.Bytes.{Reader, ◌>>=◌, pure, here, times, whole}
+use Rattle.model.specs.Programs.{read_header_in, read_header, read_program, read_transition}
+use Rattle.program.specs.declared.reader.Program as reader
 
 -- Reads a transition, and gives where it starts.
 unfoldable pub transition_start : Header → Reader ℕ
@@ -40,7 +38,7 @@ read_starts = whole program_length starts_reader
 -- What follows the header has to reach the last byte.
 abbrev pub reach : {A B : Type 0} → (bytes : List ℕ) → (A → B) → Result (Found A) → Result B
 reach bytes make m =
-    Refusals.◌>>=◌ m (λ f. when (eqb f.next (length bytes)) (λ _. ok (make f.value)) (λ _. refuse program_length f.next))
+    Refusals.◌>>=◌ m (λ f. when (eqb f.next (length bytes)) (λ _. Ok (make f.value)) (λ _. refuse program_length f.next))
 
 unfoldable pub after_header : Header → (bytes : List ℕ) → (at : ℕ) → Result Starts
 after_header header bytes at =
@@ -58,25 +56,20 @@ no_starts = replicate max_transitions 0
 abbrev pub padded : List ℕ → List ℕ
 padded starts = starts ++ replicate (max_transitions - length starts) 0
 
--- The reader's answer, by the definition's program.
-abbrev pub read_answer : Result Program → ReadAnswer
-read_answer (ok p) = ReadAnswer.TheVariants.Readable p.header
-read_answer (refused r) = ReadAnswer.TheVariants.Refused r
-
 -- The reader's entries.
 abbrev pub entries : Result Starts → List ℕ
-entries (ok s) = padded s.starts
-entries (refused r) = no_starts
+entries (Ok s) = padded s.starts
+entries (Err r) = no_starts
 
--- Answer and entries together, on a refusal and else.
-abbrev pub refused_program : Refusal → ProgramRead
-refused_program r = record { answer = ReadAnswer.TheVariants.Refused r; starts = no_starts }
+-- The program as the code has it: the header, and the entries.
+abbrev pub program_of : Starts → reader.Program
+program_of s = record { header = s.header; starts = padded s.starts }
 
-unfoldable pub program_read : Result Starts → ProgramRead
-program_read (ok s) = record { answer = ReadAnswer.TheVariants.Readable s.header; starts = padded s.starts }
-program_read (refused r) = refused_program r
+-- A result with what is made of its value.
+abbrev pub map_ok : {A B : Type 0} → (A → B) → Result A → Result B
+map_ok make m = Refusals.◌>>=◌ m (λ a. Ok (make a))
 
 -- What reading a program promises: the definition's header or refusal, and where the definition's transitions start.
-pub record Answers (bytes : List ℕ) (read : ProgramRead) : Type 0 where
-  pub answer : read.answer ≡ read_answer (read_program bytes)
-  pub starts : read.starts ≡ entries (read_starts bytes)
+pub record Answers (bytes : List ℕ) (read : Result reader.Program) : Type 0 where
+  pub answer : map_ok (λ p. p.header) read ≡ map_ok (λ p. p.header) (read_program bytes)
+  pub starts : read ≡ map_ok program_of (read_starts bytes)

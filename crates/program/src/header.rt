@@ -2,117 +2,70 @@
 ghost use Rattle.std.specs.Prelude.{◌≡◌};
 ghost use Rattle.model.specs.Limits.{max_transitions};
 ghost use Rattle.model.specs.Programs.{header_number, transition_count, read_header};
-ghost use Rattle.fields.specs.Fields.{field_of};
-ghost use Rattle.transitions.specs.Pairs.{in_turn, numbers_read};
-ghost use Rattle.program.specs.Headers.{header_read, read_control};
 
-use fields::{Field, read_byte, read_word, within};
+use fields::{read_byte, read_word, within};
 use model::refusals::{PROGRAM_LENGTH, PROGRAM_RANGE};
 use model::{
-    CELLS, Header, LONG_COUNT, QUEUES, RANKS, REGISTERS, Refusal, SHORT_TRANSITIONS, STATES,
+    CELLS, Found, Header, LONG_COUNT, QUEUES, RANKS, REGISTERS, Read, SHORT_TRANSITIONS, STATES,
     TRANSITIONS,
 };
-use transitions::pair::Pair;
 
 // What a two-byte count says at least.
 const LONG_LEAST: u16 = SHORT_TRANSITIONS + 1;
 
-// A header and the place after it, or the refusal.
-#[derive(Clone, Copy)]
-pub enum HeaderRead {
-    Read(Header, usize),
-    Refused(Refusal),
-}
-
-// A header number, which has to be within its range.
-fn header_number(bytes: &[u8], at: usize, low: u16, high: u16) -> Field
-    ensures { result ≡ field_of (header_number low high bytes.now at) }
+// A header number, from 1 to what its range ends with.
+#[tactic(auto, unfolding(model::specs::Programs::header_number, model::specs::Bytes::judged))]
+fn header_number(bytes: &[u8], at: usize, most: u16) -> Read<u16>
+    ensures { result ≡ header_number 1 most bytes.now at }
 {
     within(
         read_byte(bytes, at, PROGRAM_LENGTH),
         at,
-        low,
-        high,
+        1,
+        most,
         PROGRAM_RANGE,
     )
 }
 
-// Two header numbers, each at least 1.
-fn two_numbers(bytes: &[u8], at: usize, first: u16, second: u16) -> Pair
-    ensures { result ≡ numbers_read (in_turn (header_number 1 first) (header_number 1 second) bytes.now at) }
-{
-    let one = header_number(bytes, at, 1, first);
-    let Field::Read(a, middle) = one else {
-        return Pair::Refused(one.refusal());
-    };
-    let other = header_number(bytes, middle, 1, second);
-    let Field::Read(b, next) = other else {
-        return Pair::Refused(other.refusal());
-    };
-    Pair::Read(a, b, next)
-}
-
 // How many transitions follow: in one byte up to 128, and above that in two bytes behind a byte of 255.
-fn transition_count(bytes: &[u8], at: usize) -> Field
-    ensures { result ≡ field_of (transition_count max_transitions bytes.now at) }
+#[tactic(auto, unfolding(model::specs::Programs::transition_count, model::specs::Bytes::judged))]
+fn transition_count(bytes: &[u8], at: usize) -> Read<u16>
+    ensures { result ≡ transition_count max_transitions bytes.now at }
 {
-    let read = read_byte(bytes, at, PROGRAM_LENGTH);
-    let Field::Read(count, next) = read else {
-        return read;
-    };
-    if count == LONG_COUNT {
-        return within(
-            read_word(bytes, next, PROGRAM_LENGTH),
-            next,
+    let count = read_byte(bytes, at, PROGRAM_LENGTH)?;
+    if count.value == LONG_COUNT {
+        within(
+            read_word(bytes, count.next, PROGRAM_LENGTH),
+            count.next,
             LONG_LEAST,
             TRANSITIONS as u16,
             PROGRAM_RANGE,
-        );
+        )
+    } else {
+        within(Ok(count), at, 0, SHORT_TRANSITIONS, PROGRAM_RANGE)
     }
-    within(read, at, 0, SHORT_TRANSITIONS, PROGRAM_RANGE)
-}
-
-// Behind the numbers of what a rank has: the states and the transitions, which end the header.
-fn read_control(bytes: &[u8], at: usize, mut header: Header) -> HeaderRead
-    ensures { result ≡ header_read (read_control header bytes.now at) }
-{
-    let first = header_number(bytes, at, 1, STATES as u16);
-    let Field::Read(states, count_at) = first else {
-        return HeaderRead::Refused(first.refusal());
-    };
-    let second = transition_count(bytes, count_at);
-    let Field::Read(transitions, next) = second else {
-        return HeaderRead::Refused(second.refusal());
-    };
-    header.states = states;
-    header.transitions = transitions;
-    HeaderRead::Read(header, next)
 }
 
 // The six numbers, each judged before the next is read.
-pub fn read_header(bytes: &[u8]) -> HeaderRead
-    ensures { result ≡ header_read (read_header bytes.now 0) }
+#[tactic(auto, unfolding(model::specs::Programs::read_header_in))]
+pub fn read_header(bytes: &[u8]) -> Read<Header>
+    ensures { result ≡ read_header bytes.now 0 }
 {
-    let machine = two_numbers(bytes, 0, RANKS as u16, CELLS as u16);
-    match machine {
-        Pair::Refused(refusal) => HeaderRead::Refused(refusal),
-        Pair::Read(ranks, cells, at) => {
-            let held = two_numbers(bytes, at, REGISTERS as u16, QUEUES as u16);
-            match held {
-                Pair::Refused(refusal) => HeaderRead::Refused(refusal),
-                Pair::Read(registers, queues, at) => read_control(
-                    bytes,
-                    at,
-                    Header {
-                        ranks,
-                        cells,
-                        registers,
-                        queues,
-                        states: 0,
-                        transitions: 0,
-                    },
-                ),
-            }
-        }
-    }
+    let ranks = header_number(bytes, 0, RANKS as u16)?;
+    let cells = header_number(bytes, ranks.next, CELLS as u16)?;
+    let registers = header_number(bytes, cells.next, REGISTERS as u16)?;
+    let queues = header_number(bytes, registers.next, QUEUES as u16)?;
+    let states = header_number(bytes, queues.next, STATES as u16)?;
+    let transitions = transition_count(bytes, states.next)?;
+    Ok(Found {
+        value: Header {
+            ranks: ranks.value,
+            cells: cells.value,
+            registers: registers.value,
+            queues: queues.value,
+            states: states.value,
+            transitions: transitions.value,
+        },
+        next: transitions.next,
+    })
 }

@@ -1,5 +1,5 @@
 -- `Queued` has the laws that the proofs above cite.
-pub mod Calls
+pub mod Room
 pub mod Every
 pub mod Contents
 pub mod Moves

@@ -12,12 +12,13 @@ use Rattle.memory.proofs.Stores.{shaped, number_same, number_other}
 use Rattle.links.specs.declared.Part.{Part}
 use Rattle.links.specs.declared.Part.TheVariants.{Requests, Deliveries}
 use Rattle.entries.specs.Entries.{pool_size, value_field, link_field, request_at, delivery_at, request_stored}
-use Rattle.links.specs.Lists.{Queues, tables, lists_of_rank, list_of}
+use Rattle.links.specs.declared.Queues.{Queues}
+use Rattle.links.specs.Lists.{tables, lists_of_rank, list_of}
 use Rattle.links.specs.Lists.{field_of, with_field, linked, unlinked}
 use Rattle.links.specs.Chains.{last_or, All, Standing, Chained}
 use Rattle.queues.specs.Transfers.{Room, appended, fetched, delivered}
 use Rattle.queues.specs.Queued.{bare_request, bare_delivery, sent, Queued}
-use Rattle.queues.proofs.Calls.{there_room}
+use Rattle.queues.proofs.Room.{there_room}
 use Rattle.links.proofs.EntryLists.{all_append, all_but, all_middle, all_map, all_of}
 use Rattle.links.proofs.Changes.{linked_changed, unlinked_changed}
 use Rattle.links.proofs.Chained.{put₂_all, chained_fields, chained_linked, chained_unlinked, unlinked_free}

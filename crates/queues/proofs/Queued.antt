@@ -1,5 +1,6 @@
 -- The laws of the queues: what each operation does to the model's lists, and what is read of them. Proofs above this crate cite these, and never look
 -- into a table.
+use Rattle.std.specs.Prelude.{Option}
 use Prim.Native.Nat.{ℕ, ◌+◌, ◌≤◌, ◌<◌}
 use mathlib.Core.Path.{◌≡◌, refl, ap}
 use mathlib.Core.Bool.{Bool, ◌&&◌}
@@ -16,11 +17,12 @@ use Rattle.memory.specs.Tables.{Row, Rank, number_at, zeros}
 use Rattle.memory.proofs.Stores.{zeros_shape, zeros_number}
 use Rattle.entries.specs.declared.Request.{Request}
 use Rattle.entries.specs.declared.Delivery.{Delivery}
-use Rattle.links.specs.declared.Oldest.{Oldest}
 use Rattle.links.specs.declared.Part.{Part}
+use Rattle.links.specs.declared.Position.{Position}
 use Rattle.links.specs.declared.Part.TheVariants.{Requests, Deliveries}
 use Rattle.entries.specs.Entries.{pool_size, remote_field, request_at, delivery_at}
-use Rattle.links.specs.Lists.{Queues, tables, ends_size, list_of, head_end, tail_end, next_of, oldest_in}
+use Rattle.links.specs.declared.Queues.{Queues}
+use Rattle.links.specs.Lists.{tables, ends_size, list_of, head_end, tail_end, next_of, oldest_in}
 use Rattle.links.specs.Chains.{first, All, Standing}
 use Rattle.queues.specs.Transfers.{Room, appended, fetched, delivered}
 use Rattle.queues.specs.Endings.{queue_empty, rank_empty, all_empty}
@@ -109,13 +111,13 @@ module _ {most : ℕ} {t : Queues} {requests : ℕ → ℕ → List (Asked Origi
     abbrev delivery_entries : List ℕ
     delivery_entries = held.entries i.rank (list_of i.queue Deliveries)
 
-    abbrev pub RequestTold : Oldest → Type 0
+    abbrev pub RequestTold : Option Position → Type 0
     RequestTold = Tells bare_request (request_at t.pool) (request_for i) (requests i.rank i.queue) 0 request_entries
 
     abbrev pub RequestWaits : Type 0
     RequestWaits = Waiting bare_request (request_at t.pool) (request_for i) (requests i.rank i.queue) request_entries
 
-    abbrev pub DeliveryTold : Oldest → Type 0
+    abbrev pub DeliveryTold : Option Position → Type 0
     DeliveryTold = Tells bare_delivery (delivery_at t.pool) (delivery_for i) (deliveries i.rank i.queue) 0 delivery_entries
 
     abbrev pub DeliveryWaits : Type 0

@@ -8,7 +8,8 @@ use Rattle.entries.specs.declared.Request.{Request}
 use Rattle.entries.specs.declared.Delivery.{Delivery}
 use Rattle.links.specs.declared.Part.TheVariants.{Requests, Deliveries}
 use Rattle.entries.specs.Entries.{request_at, delivery_at}
-use Rattle.links.specs.Lists.{Queues, list_of}
+use Rattle.links.specs.declared.Queues.{Queues}
+use Rattle.links.specs.Lists.{list_of}
 use Rattle.links.specs.Chains.{All, Chained}
 
 -- The model's entries as the code has them: the group is kept of the command that asked, and not its place.

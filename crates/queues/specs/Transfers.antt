@@ -7,7 +7,8 @@ use Rattle.entries.specs.declared.Request.{Request}
 use Rattle.links.specs.declared.Position.{Position}
 use Rattle.links.specs.declared.Part.TheVariants.{Requests, Deliveries}
 use Rattle.entries.specs.Entries.{value_field, request_stored}
-use Rattle.links.specs.Lists.{Queues, tables, list_of, with_field, linked, unlinked}
+use Rattle.links.specs.declared.Queues.{Queues}
+use Rattle.links.specs.Lists.{tables, list_of, with_field, linked, unlinked}
 
 -- There is such a queue, and an entry for such an item.
 pub record Room (rank queue at : ℕ) : Type 0 where

@@ -9,38 +9,20 @@ use links::{Ends, Part};
 fn queue_empty(ends: &Ends, rank: u16, queue: u16) -> bool
     ensures { result ≡ queue_empty ends.now rank queue }
 {
-    let request = next_of(ends, rank, queue, Part::Requests);
-    let delivery = next_of(ends, rank, queue, Part::Deliveries);
-    if request == 0 {
-        return delivery == 0;
-    }
-    false
+    next_of(ends, rank, queue, Part::Requests) == 0
+        && next_of(ends, rank, queue, Part::Deliveries) == 0
 }
 
 // The queues of one rank.
 fn rank_empty(ends: &Ends, rank: u16, queues: u16) -> bool
     ensures { result ≡ rank_empty ends.now queues rank }
 {
-    let mut queue = 0;
-    while queue < queues {
-        if !queue_empty(ends, rank, queue) {
-            return false;
-        }
-        queue += 1;
-    }
-    true
+    (0..queues).all(|queue| queue_empty(ends, rank, queue))
 }
 
 // The queues of ranks 1 to `ranks`.
 pub fn all_empty(ends: &Ends, ranks: u16, queues: u16) -> bool
     ensures { result ≡ all_empty ends.now ranks queues }
 {
-    let mut before = 0;
-    while before < ranks {
-        if !rank_empty(ends, before + 1, queues) {
-            return false;
-        }
-        before += 1;
-    }
-    true
+    (0..ranks).all(|before| rank_empty(ends, before + 1, queues))
 }

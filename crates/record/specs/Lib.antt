@@ -1,3 +1,2 @@
--- What the readers answer, by the definitions of document 01.
-pub mod Items
+-- Where a record's items stand, by the definitions of document 01.
 pub mod Places

@@ -1,4 +1,5 @@
 -- The fields of an item, each with its writer: a byte that passes a test, a transition's low byte and its number with the high one, and a value.
+use Rattle.std.specs.Prelude.{Some, None, Option}
 use Prim.Native.Nat.{ℕ, ◌+◌, ◌*◌, ◌/◌, ◌%◌, ◌<◌, ◌≤◌}
 use mathlib.Core.Path.{◌≡◌, refl, sym, ap, ◌∙◌}
 use mathlib.Core.Bool.{Bool, true, false, true≢false, false≢true, ◌&&◌}
@@ -8,8 +9,6 @@ use native.Mathlib.Omega.{arith}
 use lib.Arith.{digits_div, digits_mod}
 use lib.Dec.{ltb}
 use borrow.Author.Tests.{ltb-true, lt-ltb}
-use Rattle.model.specs.declared.Given.{Given}
-use Rattle.model.specs.declared.Given.TheVariants.{Value, Absent}
 use Rattle.model.specs.Limits.{byte_values, word_values, max_transitions}
 use Rattle.model.specs.Refusals.{record_length, record_range}
 use Rattle.model.specs.Bytes.{optional}
@@ -77,36 +76,36 @@ trip_high transitions low few small =
         }
 
 -- A value, if its bit stands.
-pub record GivenBy (present : Bool) (given : Given) : Type 0 where
+pub record GivenBy (present : Bool) (given : Option ℕ) : Type 0 where
   pub in_range_lem : GivenIn given
   pub told : is_given given ≡ present
 
-abbrev value_in : Given → ℕ
-value_in (Value v) = v
-value_in Absent = 0
+abbrev value_in : Option ℕ → ℕ
+value_in (Some v) = v
+value_in None = 0
 
-value_small : (given : Given) → GivenIn given → value_in given < word_values
-value_small (Value v) small = small
-value_small Absent small = omega arith
+value_small : (given : Option ℕ) → GivenIn given → value_in given < word_values
+value_small (Some v) small = small
+value_small None small = omega arith
 
-pub absent : (given : Given) → is_given given ≡ false → given ≡ Absent
-absent (Value v) is = absurd (true≢false is)
-absent Absent is = refl
+pub absent : (given : Option ℕ) → is_given given ≡ false → given ≡ None
+absent (Some v) is = absurd (true≢false is)
+absent None is = refl
 
-there : (given : Given) → is_given given ≡ true → given ≡ Value (value_in given)
-there (Value v) is = refl
-there Absent is = absurd (false≢true is)
+there : (given : Option ℕ) → is_given given ≡ true → given ≡ Some (value_in given)
+there (Some v) is = refl
+there None is = absurd (false≢true is)
 
-pub trip_given : (present : Bool) → RoundTrip (optional present Absent given_value) given_bytes (GivenBy present)
+pub trip_given : (present : Bool) → RoundTrip (optional present None given_value) given_bytes (GivenBy present)
 unfolding given_value
 trip_given true =
     trip_written
     (trip_plain
     (trip_then value_in (trip_word record_length) (λ given is _. value_small given is.in_range_lem) λ v small.
-    trip_pure (Value v) (record { in_range_lem = small; told = refl }) (tt, refl)
-    (λ given is (_, picked). ap Value (sym picked) ∙ sym (there given is.told))))
+    trip_pure (Some v) (record { in_range_lem = small; told = refl }) (tt, refl)
+    (λ given is (_, picked). ap Some (sym picked) ∙ sym (there given is.told))))
     (λ given is. rw (there given is.told) refl)
 trip_given false =
     trip_written
-    (trip_plain (trip_pure Absent (record { in_range_lem = tt; told = refl }) tt (λ given is _. sym (absent given is.told))))
+    (trip_plain (trip_pure None (record { in_range_lem = tt; told = refl }) tt (λ given is _. sym (absent given is.told))))
     (λ given is. rw (absent given is.told) refl)

@@ -1,4 +1,5 @@
 -- A header's reader and writer undo each other, so each T has one form: a count that fits the byte is in the byte, and 255 stands before no such count.
+use Rattle.model.specs.declared.Found.{Found}
 use Prim.Native.Nat.{ℕ, ◌+◌, ◌≤◌, ◌<◌}
 use mathlib.Core.Path.{◌≡◌, refl, sym, ap, ◌∙◌}
 use mathlib.Core.Bool.{true}
@@ -9,9 +10,9 @@ use lib.ListN.{length, drop}
 use borrow.Author.Tests.{eqb-true, eqb-false, lt-ltb, le-ltb, leb-true, leb-false, le-leb, lt-leb, ne_eqb}
 use Rattle.model.specs.declared.Header.{Header}
 use Rattle.model.specs.Limits.{max_ranks, max_cells, max_registers, max_queues, max_states, short_transitions, max_transitions, long_count, byte_values}
-use Rattle.model.specs.Refusals.{ok, program_length, program_range}
+use Rattle.model.specs.Refusals.{Ok, program_length, program_range}
 use Rattle.model.specs.Choice.{between}
-use Rattle.model.specs.Bytes.{AreBytes, Found, found, word, word_bytes, judged, optional, times}
+use Rattle.model.specs.Bytes.{AreBytes, found, word, word_bytes, judged, optional, times}
 use Rattle.model.specs.Programs.{Transition, Program, header_number, count_byte, transition_count, read_header_in, read_header, read_transition, program_reader_in, program_reader}
 use Rattle.model.specs.Programs.{read_program_in, read_program}
 use Rattle.model.proofs.Laws.{decided, Within, between_true, true_between, bind_ok, ok_injective}
@@ -128,14 +129,14 @@ header_trip =
     (λ h w ((((((_, n), a), r), q), s), t). rw (← n, ← a, ← r, ← q, ← s, ← t) refl))
 
 -- The claims.
-begins_with : (bytes : List ℕ) (P : Program) → AreBytes bytes → read_program bytes ≡ ok P → (rest : List ℕ) × (bytes ≡ header_bytes P.header ++ rest)
+begins_with : (bytes : List ℕ) (P : Program) → AreBytes bytes → read_program bytes ≡ Ok P → (rest : List ℕ) × (bytes ≡ header_bytes P.header ++ rest)
 unfolding read_program_in program_reader_in
 begins_with bytes P bound h =
     let (f, read, h₁) = bind_ok (read_header bytes 0) _ (whole_ok program_length program_reader bytes h) in
     let (g, _, h₂) = bind_ok (times f.value.transitions (read_transition f.value) bytes f.next) _ h₁ in
     of_header f g read h₂
   where
-    of_header : (f : Found Header) (g : Found (List Transition)) → read_header bytes 0 ≡ ok f →
+    of_header : (f : Found Header) (g : Found (List Transition)) → read_header bytes 0 ≡ Ok f →
         found {A = Program} (record { header = f.value; transitions = g.value }) g.next ≡ found P (length bytes) →
         (rest : List ℕ) × (bytes ≡ header_bytes P.header ++ rest)
     of_header f g read is =

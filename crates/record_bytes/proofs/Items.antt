@@ -1,5 +1,7 @@
 -- An item's reader and writer undo each other (`item_trip`), in one walk through the reader: what the bits of a right map make of the fields that were
 -- read, and of those that are written; then the item from its map byte on.
+use Rattle.model.specs.declared.Found.{Found}
+use Rattle.std.specs.Prelude.{Option}
 use Prim.Native.Nat.{ℕ, ◌%◌, ◌<◌, ◌≤◌}
 use mathlib.Core.Path.{◌≡◌, refl, sym, ap, ap₂, subst, ◌∙◌}
 use mathlib.Core.Bool.{true, false, true≢false, false≢true}
@@ -8,20 +10,18 @@ use native.Mathlib.Nat.{mod-eq_of_lt, add-zero}
 use native.Mathlib.Omega.{arith}
 use lib.Dec.{ltb, leb}
 use borrow.Author.Tests.{ltb-true, lt-ltb, ltb-false, le-leb, lt-leb, leb-true, leb-false}
-use Rattle.model.specs.declared.Given.{Given}
 use Rattle.model.specs.declared.Header.{Header}
 use Rattle.model.specs.declared.Item.{Item}
-use Rattle.model.specs.declared.ItemForm.{ItemForm}
 use Rattle.model.specs.declared.Kind.{Kind}
 use Rattle.model.specs.declared.Kind.TheVariants.{Load, Store, Assign, Assume, Read, Write, Popa, Popb, Bar}
 use Rattle.model.specs.Limits.{byte_values, word_values}
-use Rattle.model.specs.Refusals.{ok, record_length, record_range}
+use Rattle.model.specs.Refusals.{Ok, record_length, record_range}
 use Rattle.model.specs.Choice.{between, bit}
-use Rattle.model.specs.Bytes.{Found, found}
+use Rattle.model.specs.Bytes.{found}
 use Rattle.model.specs.ItemKinds.{kind_number, has_place, is_command_kind, Part, command, fetch, delivery, part_of, is_command_part}
 use Rattle.model.specs.Formats.{HasMap}
 use Rattle.model.specs.Programs.{HeaderFits}
-use Rattle.model.specs.ItemForms.{FormIs, good, unknown_kind, wrong_map, item_form, judged_item_form}
+use Rattle.model.specs.ItemForms.{FormIs, good, unknown_kind, wrong_map, item_form, judged_item_form, ItemForm}
 use Rattle.model.specs.Machine.{address}
 use Rattle.model.specs.Records.{item_fields, read_item_in, read_item}
 use Rattle.model.specs.Traces.{ChosenIn, InRecord}
@@ -113,7 +113,7 @@ module _ (h : Header) (fits : HeaderFits h) {kind : Kind} {map : ℕ} (has : Has
     map_is_own : item_map i ≡ map
 
   -- What was read is such an item.
-  module _ {rank low queue place_rank_lem place_cell_lem remote transition : ℕ} {given : Given} (is_rank : Optional (bit 0 map) 0 Ranked rank)
+  module _ {rank low queue place_rank_lem place_cell_lem remote transition : ℕ} {given : Option ℕ} (is_rank : Optional (bit 0 map) 0 Ranked rank)
       (is_low : Optional (bit 1 map) 0 (Low (bit 7 map) h.transitions) low) (is_queue : Optional (bit 2 map) 0 Queued queue)
       (is_place_rank : Optional (bit 3 map) 0 Ranked place_rank_lem) (is_place_cell : Optional (bit 4 map) 0 Celled place_cell_lem)
       (is_given_lem : GivenBy (bit 5 map) given) (is_remote : Optional (bit 6 map) 0 Ranked remote)
@@ -285,7 +285,7 @@ record Judged (map number : ℕ) (kind : Kind) : Type 0 where
   has : HasMap kind map
 
 verdict_so : {bytes : List ℕ} (at next : ℕ) {map number : ℕ} {form : ItemForm} → FormIs HasMap map number form → (f : Found Kind) →
-    judged_item_form at form bytes next ≡ ok f → StandsAt (λ k. []) (Judged map number) bytes next f
+    judged_item_form at form bytes next ≡ Ok f → StandsAt (λ k. []) (Judged map number) bytes next f
 unfolding judged_item_form
 verdict_so {bytes} at next (good kind same has) f h =
     subst (StandsAt (λ k. []) (Judged _ _) bytes next) (ok_injective h) (record { can = record { same = same; has = has }; stands = refl })

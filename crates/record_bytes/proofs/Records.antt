@@ -9,7 +9,7 @@ use borrow.Author.Tests.{leb-true, le-leb}
 use Rattle.model.specs.declared.Header.{Header}
 use Rattle.model.specs.declared.Item.{Item}
 use Rattle.model.specs.Limits.{max_items}
-use Rattle.model.specs.Refusals.{ok, record_length, record_range}
+use Rattle.model.specs.Refusals.{Ok, record_length, record_range}
 use Rattle.model.specs.Programs.{Program, HeaderFits, read_program}
 use Rattle.model.specs.Records.{record_reader_in, record_reader, read_record_in}
 use Rattle.model.specs.Machine.{Start}
@@ -46,9 +46,9 @@ record_forms h fits =
     }
 
 -- What is written of items that the replay accepts is a record that the check accepts.
-pub accept_written : (program start : List ℕ) {P : Program} {readings : Start} → read_program program ≡ ok P →
-    read_start P.header start ≡ ok readings → {items : List Item} → WritableRecord P.header items → {run : Replayed} →
-    replay P readings items ≡ ok run → accept program start (record_bytes items) ≡ ok (record { program = P; readings = readings; run = run })
+pub accept_written : (program start : List ℕ) {P : Program} {readings : Start} → read_program program ≡ Ok P →
+    read_start P.header start ≡ Ok readings → {items : List Item} → WritableRecord P.header items → {run : Replayed} →
+    replay P readings items ≡ Ok run → accept program start (record_bytes items) ≡ Ok (record { program = P; readings = readings; run = run })
 unfolding accept_in
 accept_written program start {P} program_read_lem start_read_lem {items} w replayed =
     rw (program_read_lem, start_read_lem, (record_forms P.header (header_fits program program_read_lem)).read_back items w, replayed)

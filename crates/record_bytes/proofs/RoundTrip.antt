@@ -3,6 +3,7 @@
 --
 -- Where one reader follows another, the value that the first one finds is picked from the value that the whole finds. So the rest is shown, for each such
 -- value, of the values from which it is picked.
+use Rattle.model.specs.declared.Found.{Found}
 use Prim.Native.Nat.{ℕ, zero, suc, ◌+◌, ◌/◌, ◌%◌, ◌<◌}
 use mathlib.Core.Path.{◌≡◌, refl, sym, ap, ap₂, subst, ◌∙◌}
 use mathlib.Core.Bool.{Bool, true, false, true≢false, false≢true}
@@ -14,9 +15,9 @@ use lib.Seq.{drop-drop, drop-append_seam, drop-length, get_or-drop}
 use borrow.Author.Tests.{eq-eqb}
 use Rattle.model.specs.Limits.{byte_values, word_values}
 use Rattle.model.specs.Refusals as Refusals
-use Rattle.model.specs.Refusals.{ok}
+use Rattle.model.specs.Refusals.{Ok}
 use Rattle.model.specs.Choice.{Each, all, one}
-use Rattle.model.specs.Bytes.{AreBytes, Found, Reader, found, pure, here, byte, word, word_bytes, judged, optional, times, whole, ◌>>=◌}
+use Rattle.model.specs.Bytes.{AreBytes, Reader, found, pure, here, byte, word, word_bytes, judged, optional, times, whole, ◌>>=◌}
 use Rattle.model.proofs.Laws.{ok_injective, bind_ok}
 use Rattle.model.proofs.Bytes.{byte_there, judged_ok, times_none, times_more, finds_word}
 use Rattle.model.proofs.Standing.{byte_stands, word_read, word_stands}
@@ -224,7 +225,7 @@ module _ {A : Type 0} {read : Reader A} {written : A → List ℕ} {Can : A → 
       )
       (ap (found (a ∷ rest)) (omega arith))
 
-  all_stand : (bytes : List ℕ) → AreBytes bytes → (n at : ℕ) (f : Found (List A)) → times n read bytes at ≡ ok f →
+  all_stand : (bytes : List ℕ) → AreBytes bytes → (n at : ℕ) (f : Found (List A)) → times n read bytes at ≡ Ok f →
       StandsAt all_written (λ l. Each Can l × (length l ≡ n)) bytes at f
   all_stand bytes bound zero at f h =
       subst (StandsAt all_written (λ l. Each Can l × (length l ≡ 0)) bytes at) (ok_injective (sym (times_none read bytes at) ∙ h))
@@ -257,7 +258,7 @@ module _ {A : Type 0} {read : Reader A} {written : A → List ℕ} {Can : A → 
 
 -- What is read to the end of the bytes is what is written, and no other bytes are read as it.
 module _ {A : Type 0} {read : Reader A} {written : A → List ℕ} {Can : A → Type 0} (first : RoundTrip read written Can) where
-  pub whole_back : (left : ℕ) (a : A) → Can a → whole left read (written a) ≡ ok a
+  pub whole_back : (left : ℕ) (a : A) → Can a → whole left read (written a) ≡ Ok a
   unfolding whole
   whole_back left a can =
       rw (first.read_back a can (written a) 0 [] (sym (append-nil (written a))), eq-eqb (0 + length (written a)) (length (written a)) (omega arith))

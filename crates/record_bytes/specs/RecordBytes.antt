@@ -1,7 +1,5 @@
 -- Record bytes (document 01), written: "a two-byte item count, 0..1,024, then the items", each in its one form.
-use Rattle.std.specs.Prelude.{ℕ, ◌+◌, ◌/◌, ◌%◌, ◌≡◌, Bool, true, false, not, List, [], ◌∷◌, ◌++◌, ltb, leb, length}
-use Rattle.model.specs.declared.Given.{Given}
-use Rattle.model.specs.declared.Given.TheVariants.{Value, Absent}
+use Rattle.std.specs.Prelude.{ℕ, ◌+◌, ◌/◌, ◌%◌, ◌≡◌, Bool, true, false, not, List, [], ◌∷◌, ◌++◌, ltb, leb, length, Some, None, Option}
 use Rattle.model.specs.declared.Header.{Header}
 use Rattle.model.specs.declared.Item.{Item}
 use Rattle.model.specs.declared.Kind.{Kind}
@@ -21,13 +19,13 @@ abbrev pub part : Bool → List ℕ → List ℕ
 part true bytes = bytes
 part false bytes = []
 
-abbrev pub is_given : Given → Bool
-is_given (Value v) = true
-is_given Absent = false
+abbrev pub is_given : Option ℕ → Bool
+is_given (Some v) = true
+is_given None = false
 
-abbrev pub given_bytes : Given → List ℕ
-given_bytes (Value v) = word_bytes v
-given_bytes Absent = []
+abbrev pub given_bytes : Option ℕ → List ℕ
+given_bytes (Some v) = word_bytes v
+given_bytes None = []
 
 -- The one map of an item: a rank; a transition or a queue; a place where the kind has one; a value if it gives one; a remote rank if it names one; and
 -- a high byte if the transition's number needs it.
@@ -69,7 +67,7 @@ record_bytes items = word_bytes (length items) ++ items_bytes items
 pub record Shown (i : Item) : Type 0 where
   pub of_command : is_command_kind i.kind ≡ true → (i.queue ≡ 0) × (i.remote ≡ 0)
   pub of_pop : is_command_kind i.kind ≡ false → i.transition ≡ 0
-  pub of_no_place : has_place i.kind ≡ false → (i.place ≡ address 0 0) × (i.given ≡ Absent)
+  pub of_no_place : has_place i.kind ≡ false → (i.place ≡ address 0 0) × (i.given ≡ None)
 
 -- An item that can be written: as a record has it, and as its bytes show it.
 pub record Writable (h : Header) (i : Item) : Type 0 where

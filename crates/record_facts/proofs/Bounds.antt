@@ -1,10 +1,12 @@
 -- Bounds on what an accepted record's events name, whatever values it gives: groups are below the number of groups, of which there is at most one for
 -- each event, and ranks and cells are the program's. A pop's group is its command's, so the entries of every queue are of groups below that number.
+use Rattle.model.specs.declared.Action.TheVariants.{Loads, Stores, Assigns, Passes, Issues, Meets}
+use Rattle.std.specs.Prelude.{Option, Some, None}
+use Rattle.model.proofs.Options.{none-ne-some, some-injective}
 use Prim.Native.Nat.{ℕ, zero, suc, ◌+◌, ◌<◌, ◌≤◌}
 use mathlib.Core.Path.{◌≡◌, refl, subst, ap}
 use mathlib.Core.Bool.{true}
 use mathlib.Core.List.{List, [], ◌∷◌}
-use mathlib.Core.Option.{Option, some, none, none-ne-some, some-injective}
 use native.Mathlib.Omega.{arith}
 use lib.Dec.{leb}
 use lib.ListN.{length}
@@ -13,13 +15,13 @@ use Rattle.model.specs.declared.Address.{Address}
 use Rattle.model.specs.declared.Header.{Header}
 use Rattle.model.specs.declared.Item.{Item}
 use Rattle.model.specs.Limits.{max_items}
-use Rattle.model.specs.Refusals.{ok, record_length, record_range}
+use Rattle.model.specs.Refusals.{Ok, record_length, record_range}
 use Rattle.model.specs.Choice.{Each, all, one}
 use Rattle.model.specs.Bytes.{word, judged}
 use Rattle.model.specs.ItemKinds.{has_place}
 use Rattle.model.specs.Programs.{Program, Command, Transition, HeaderFits}
 use Rattle.model.specs.Records.{read_item, record_reader_in, record_reader, read_record_in, read_record}
-use Rattle.model.specs.Machine.{Access, Action, loads, stores, assigns, passes, issues, meets}
+use Rattle.model.specs.Machine.{Access, Action}
 use Rattle.model.specs.Machine.{Start, initial, move_to, set_register, set_cell, set_requests, set_deliveries}
 use Rattle.model.specs.Replay.{Event, Replay, Taken, Replayed, joins_row, opened_after, origin_of, access_of, perform}
 use Rattle.model.specs.Replay.{take_item, take_items, same_address, agrees_with, begin, replay}
@@ -81,23 +83,23 @@ module _ (P : Program) (s : Replay) (i : Item) (b : Bounded s) where
     requests_performed : (a : Action) (rank queue : ℕ) →
         Each (λ e. e.mark.group < opened) ((perform i.rank (origin_of s i) a s.machine).requests rank queue)
     unfolding perform set_register set_cell set_requests
-    requests_performed (loads x c) = requests_later
-    requests_performed (stores c v) = requests_later
-    requests_performed (assigns x v) = requests_later
-    requests_performed passes = requests_later
-    requests_performed (issues q remote source destination) =
+    requests_performed (Loads x c) = requests_later
+    requests_performed (Stores c v) = requests_later
+    requests_performed (Assigns x v) = requests_later
+    requests_performed Passes = requests_later
+    requests_performed (Issues q remote source destination) =
         put₂_holds (Each _) s.machine.requests i.rank q (each_snoc (requests_later i.rank q) own) requests_later
-    requests_performed meets = requests_later
+    requests_performed Meets = requests_later
 
     deliveries_performed : (a : Action) (rank queue : ℕ) →
         Each (λ e. e.mark.group < opened) ((perform i.rank (origin_of s i) a s.machine).deliveries rank queue)
     unfolding perform set_register set_cell set_requests
-    deliveries_performed (loads x c) = deliveries_later
-    deliveries_performed (stores c v) = deliveries_later
-    deliveries_performed (assigns x v) = deliveries_later
-    deliveries_performed passes = deliveries_later
-    deliveries_performed (issues q remote source destination) = deliveries_later
-    deliveries_performed meets = deliveries_later
+    deliveries_performed (Loads x c) = deliveries_later
+    deliveries_performed (Stores c v) = deliveries_later
+    deliveries_performed (Assigns x v) = deliveries_later
+    deliveries_performed Passes = deliveries_later
+    deliveries_performed (Issues q remote source destination) = deliveries_later
+    deliveries_performed Meets = deliveries_later
 
   stepped : {t : Taken} → ItemTaken P s i t → Stepped s t
   unfolding move_to set_requests set_deliveries set_cell
@@ -149,8 +151,8 @@ pub record AddressIn (header : Header) (a : Address) : Type 0 where
   pub cell : a.cell < header.cells
 
 abbrev pub AccessIn : Header → Option Access → Type 0
-AccessIn header none = Unit {0}
-AccessIn header (some a) = AddressIn header a.address
+AccessIn header None = Unit {0}
+AccessIn header (Some a) = AddressIn header a.address
 
 pub record EventIn (header : Header) (e : Event) : Type 0 where
   pub rank : Within 1 header.ranks (rank_of e)
@@ -169,7 +171,7 @@ command_inside P rank registers cells r (writing operands) = tt
 command_inside P rank registers cells r meeting = tt
 
 place_inside : {header : Header} {bytes : List ℕ} (i : Item) → Ranged header bytes i → has_place i.kind ≡ true → (access : Access) →
-    agrees_with i (some access) ≡ true → AddressIn header access.address
+    agrees_with i (Some access) ≡ true → AddressIn header access.address
 unfolding agrees_with
 place_inside {header} i r has access h =
     let same : i.place ≡ access.address =
@@ -214,7 +216,7 @@ one_more_lem {header} {e = e} {run} inside group rises most rest =
 
 module _ (P : Program) {bytes : List ℕ} where
   walked : (s : Replay) (at : ℕ) (items : List Item) {run : Replayed} → Each (Ranged P.header bytes) items →
-      Bounded s → take_items P s at items ≡ ok run → Bounds P.header s.opened (length items) run
+      Bounded s → take_items P s at items ≡ Ok run → Bounds P.header s.opened (length items) run
   unfolding take_items
   walked s at [] all b h =
       rw (← (ok_injective h))
@@ -236,7 +238,7 @@ module _ (P : Program) {bytes : List ℕ} where
 
   -- An accepted list of items that were read.
   pub replayed_bounds : (start : Start) (items : List Item) {run : Replayed} → Each (Ranged P.header bytes) items →
-      replay P start items ≡ ok run → Bounds P.header 0 (length items) run
+      replay P start items ≡ Ok run → Bounds P.header 0 (length items) run
   unfolding begin initial
   replayed_bounds start items ranged h =
       walked (begin start) 0 items ranged
@@ -244,13 +246,13 @@ module _ (P : Program) {bytes : List ℕ} where
 
 -- The items that were read: in their ranges, and no more than a record has.
 module _ (header : Header) (bytes : List ℕ) where
-  pub read_ranged : {items : List Item} → read_record header bytes ≡ ok items → Each (Ranged header bytes) items
+  pub read_ranged : {items : List Item} → read_record header bytes ≡ Ok items → Each (Ranged header bytes) items
   unfolding read_record_in record_reader_in
   read_ranged =
       whole_finds record_length (record_reader header) bytes (Each (Ranged header bytes))
       (finds_bind (finds_anything (judged (λ n. leb n max_items) record_range (word record_length))) λ count _. finds_times count (item_finds header))
 
-  pub read_few : {items : List Item} → read_record header bytes ≡ ok items → length items ≤ max_items
+  pub read_few : {items : List Item} → read_record header bytes ≡ Ok items → length items ≤ max_items
   unfolding read_record_in record_reader_in
   read_few =
       whole_finds record_length (record_reader header) bytes (λ items. length items ≤ max_items)
@@ -263,7 +265,7 @@ pub record AcceptedBounds (a : Accepted) : Type 0 where
   pub few : length a.run.events ≤ max_items
   pub bounds : Bounds a.program.header 0 (length a.run.events) a.run
 
-pub accepted_bounds : (program start recorded : List ℕ) (a : Accepted) → accept program start recorded ≡ ok a → AcceptedBounds a
+pub accepted_bounds : (program start recorded : List ℕ) (a : Accepted) → accept program start recorded ≡ Ok a → AcceptedBounds a
 accepted_bounds program start recorded a accepted =
     let p = accepted_parts program start recorded a accepted in
     let header = a.program.header in

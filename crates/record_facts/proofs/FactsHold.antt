@@ -3,7 +3,7 @@ use mathlib.Core.Path.{◌≡◌, ap}
 use mathlib.Core.Bool.{true}
 use mathlib.Core.List.{List}
 use Rattle.model.specs.declared.Item.{Item}
-use Rattle.model.specs.Refusals.{ok}
+use Rattle.model.specs.Refusals.{Ok}
 use Rattle.model.specs.Choice.{Each}
 use Rattle.model.specs.Programs.{Program}
 use Rattle.model.specs.Machine.{Start}
@@ -25,7 +25,7 @@ move_agrees (fetches i a rest c) = c.agreed
 move_agrees (delivers i b rest c) = c.agreed
 
 pub facts : (P : Program) (start : Start) (items : List Item) (run : Replayed) →
-    Each (InRecord P.header) items → replay P start items ≡ ok run → Facts P start items run
+    Each (InRecord P.header) items → replay P start items ≡ Ok run → Facts P start items run
 facts P start items run within h =
     let a : AcceptedRun P start items run = accepted P start items run within h in
     let taken = a.taken in

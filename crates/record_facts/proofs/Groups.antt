@@ -1,6 +1,7 @@
 -- The groups at a point of a run. Those not yet numbered have nothing. Of those that are numbered, the last may be a barrier row that is still
 -- open; every other stands as a finished command, a closed row, or a transfer at one of its stages. Here too is what a command makes of its group:
 -- one that is no bar opens a group; a bar enters a row, which the bar of rank 1 opens and every later one joins.
+use Rattle.model.specs.declared.Action.TheVariants.{Loads, Stores, Assigns, Passes, Issues, Meets}
 use Prim.Native.Nat.{ℕ, suc, ◌-◌, ◌<◌, ◌≤◌}
 use native.Mathlib.Nat.{le_refl}
 use native.Mathlib.Omega.{arith}
@@ -16,7 +17,7 @@ use Rattle.model.specs.declared.Kind.TheVariants.{Bar}
 use Rattle.model.specs.Choice.{numbers_from, Each, all}
 use Rattle.model.specs.ItemKinds.{is_bar, is_transfer, is_command_part}
 use Rattle.model.specs.Programs.{Program, Transition}
-use Rattle.model.specs.Machine.{Action, loads, stores, assigns, passes, issues, meets}
+use Rattle.model.specs.Machine.{Action}
 use Rattle.model.specs.Replay.{Event, Replay, row_allows, joins_row, group_of, opened_after, queue_of, origin_of, after_command}
 use Rattle.model.specs.HappensBefore.{rank_of}
 use Rattle.model.proofs.Laws.{decided}
@@ -24,7 +25,7 @@ use Rattle.record_facts.specs.Facts.{Local}
 use Rattle.record_facts.proofs.Moves.{Commands, Move}
 use Rattle.record_facts.proofs.Locals.{local_of}
 use Rattle.record_facts.proofs.Queues.{Out, entries_of, out_own, out_nothing}
-use Rattle.record_facts.proofs.Status.{Standing, standing, nothing, unopened, plus_event, plus_request, Issues, request_of, Status, alone, issued}
+use Rattle.record_facts.proofs.Status.{Standing, standing, nothing, unopened, plus_event, plus_request, Issuing, request_of, Status, alone, issued}
 use Rattle.record_facts.proofs.Standings.{stands_other, stands_command, stands_transfer}
 use Rattle.record_facts.proofs.Rows.{either, joining, opening, group_joined, group_opened, count_joined, count_opened}
 
@@ -67,14 +68,14 @@ known_group {s = s} inv group {a} o none_there =
 module _ {P : Program} {local : ℕ → ℕ → Local} {s : Replay} (done : List Event)
     (now : (rank : ℕ) → local rank (s.taken rank) ≡ local_of s rank) (i : Item) (t : Transition) where
   -- A transfer issues its request.
-  issues_status : (q remote : ℕ) (source destination : Address) → Commands P s i t (issues q remote source destination) →
-      let g = (origin_of s i).group in let after = after_command P s i t.target (issues q remote source destination) in
+  issues_status : (q remote : ℕ) (source destination : Address) → Commands P s i t (Issues q remote source destination) →
+      let g = (origin_of s i).group in let after = after_command P s i t.target (Issues q remote source destination) in
       standing g done s ≡ unopened → Stands P local (done ++ after.event ∷ []) after.state g
   unfolding queue_of
   issues_status q remote source destination c was =
       let g = (origin_of s i).group in
-      let e = (after_command P s i t.target (issues q remote source destination)).event in
-      let issue : Issues P local e remote source destination =
+      let e = (after_command P s i t.target (Issues q remote source destination)).event in
+      let issue : Issuing P local e remote source destination =
       record {
         kind = c.fits.0;
         low = c.in_record.low;
@@ -99,12 +100,12 @@ module _ {P : Program} {local : ℕ → ℕ → Local} {s : Replay} (done : List
   pub command_status : (a : Action) → Commands P s i t a → is_bar i.kind ≡ false →
       let g = (origin_of s i).group in let after = after_command P s i t.target a in
       standing g done s ≡ unopened → Stands P local (done ++ after.event ∷ []) after.state g
-  command_status (loads x v) c bar was = alone_status (loads x v) c c.fits.0 bar was
-  command_status (stores x v) c bar was = alone_status (stores x v) c c.fits.0 bar was
-  command_status (assigns x v) c bar was = alone_status (assigns x v) c c.fits.0 bar was
-  command_status passes c bar was = alone_status passes c c.fits.0 bar was
-  command_status (issues q remote source destination) c bar was = issues_status q remote source destination c was
-  command_status meets c bar was = absurd (true≢false (rw c.fits at bar))
+  command_status (Loads x v) c bar was = alone_status (Loads x v) c c.fits.0 bar was
+  command_status (Stores x v) c bar was = alone_status (Stores x v) c c.fits.0 bar was
+  command_status (Assigns x v) c bar was = alone_status (Assigns x v) c c.fits.0 bar was
+  command_status Passes c bar was = alone_status Passes c c.fits.0 bar was
+  command_status (Issues q remote source destination) c bar was = issues_status q remote source destination c was
+  command_status Meets c bar was = absurd (true≢false (rw c.fits at bar))
 
 -- A bar's group is the last one after it; before it, it is the row that ranks 1 to `row` have entered, and every other group is settled.
 pub record Entering (s : Replay) (done : List Event) (i : Item) : Type 0 where

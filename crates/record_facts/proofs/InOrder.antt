@@ -1,5 +1,6 @@
 -- The entries of a queue stand in the order in which they were appended: the numbers of the items that appended them rise along it. An item has a
 -- higher number than all before it, so what it appends keeps them rising; and so does what a pop leaves.
+use Rattle.model.specs.declared.Action.TheVariants.{Loads, Stores, Assigns, Passes, Issues, Meets}
 use Prim.Native.Nat.{ℕ, suc}
 use mathlib.Core.Path.{◌≡◌, ◌∙◌}
 use mathlib.Core.Bool.{true}
@@ -9,7 +10,7 @@ use lib.ListN.{length, length-append}
 use Rattle.model.specs.declared.Item.{Item}
 use Rattle.model.specs.ItemKinds.{is_transfer}
 use Rattle.model.specs.Programs.{Program, Transition}
-use Rattle.model.specs.Machine.{Start, Request, Delivery, initial, move_to, set_register, set_cell, set_requests, set_deliveries, Action, loads, stores, assigns, passes, issues, meets}
+use Rattle.model.specs.Machine.{Start, Request, Delivery, initial, move_to, set_register, set_cell, set_requests, set_deliveries, Action}
 use Rattle.model.specs.Replay.{Origin, Event, Replay, begin, perform, origin_of, after_command, after_fetch, after_delivery}
 use Rattle.model.specs.HappensBefore.{At}
 use Rattle.model.proofs.Laws.{put₂_holds}
@@ -47,18 +48,18 @@ module _ (events : List Event) where
         (is_transfer i.kind ≡ true → number_of events is_transfer (origin_of s i).group ≡ n) →
         InOrder (suc n) (after_command P s i t.target a).state
     unfolding move_to perform set_register set_cell set_requests
-    command_order i t (loads x v) c new = record { requests = still_requests; deliveries = still_deliveries }
-    command_order i t (stores x v) c new = record { requests = still_requests; deliveries = still_deliveries }
-    command_order i t (assigns x v) c new = record { requests = still_requests; deliveries = still_deliveries }
-    command_order i t passes c new = record { requests = still_requests; deliveries = still_deliveries }
-    command_order i t (issues q remote source destination) c new =
+    command_order i t (Loads x v) c new = record { requests = still_requests; deliveries = still_deliveries }
+    command_order i t (Stores x v) c new = record { requests = still_requests; deliveries = still_deliveries }
+    command_order i t (Assigns x v) c new = record { requests = still_requests; deliveries = still_deliveries }
+    command_order i t Passes c new = record { requests = still_requests; deliveries = still_deliveries }
+    command_order i t (Issues q remote source destination) c new =
         record {
           requests =
               put₂_holds (Rises request_number (suc n)) s.machine.requests i.rank q
               (rises_last request_number (new c.fits.0) (ordered.requests i.rank q)) still_requests;
           deliveries = still_deliveries;
         }
-    command_order i t meets c new = record { requests = still_requests; deliveries = still_deliveries }
+    command_order i t Meets c new = record { requests = still_requests; deliveries = still_deliveries }
 
     -- After a popa: its delivery is the newest of its queue.
     fetch_order : (i : Item) (a : Request Origin) (rest : List (Request Origin)) → FetchTaken s i a rest →

@@ -1,5 +1,6 @@
 -- A rank's local state: a step changes it only if it is a command of that rank, and then as the command's action says, by the local state and by
 -- what a load reads.
+use Rattle.model.specs.declared.Action.TheVariants.{Loads, Stores, Assigns, Passes, Issues, Meets}
 use Prim.Native.Nat.{ℕ, suc, ◌+◌}
 use native.Mathlib.Numerals.{add-one}
 use mathlib.Core.Path.{◌≡◌, refl, sym, ◌∙◌, ap, ap₂, subst}
@@ -10,7 +11,7 @@ use borrow.Author.Tests.{eqb-true, eqb-false}
 use Rattle.model.specs.declared.Item.{Item}
 use Rattle.model.specs.ItemKinds.{is_command_part}
 use Rattle.model.specs.Programs.{Program}
-use Rattle.model.specs.Machine.{State, Request, Delivery, move_to, set_cell, set_requests, set_deliveries, Action, loads, stores, assigns, passes, issues, meets}
+use Rattle.model.specs.Machine.{State, Request, Delivery, move_to, set_cell, set_requests, set_deliveries, Action}
 use Rattle.model.specs.Replay.{Origin, Event, Replay, access_of, perform, origin_of, after_fetch, after_delivery}
 use Rattle.model.specs.HappensBefore.{is_command, rank_of}
 use Rattle.model.specs.Traces.{command_of}
@@ -27,32 +28,32 @@ local_of s rank = record { control = s.machine.control rank; registers = s.machi
 module _ (own : ℕ) (origin : Origin) where
   pub registers_kept : (a : Action) (s : State Origin) (rank : ℕ) → ¬ (rank ≡ own) → (perform own origin a s).registers rank ≡ s.registers rank
   unfolding perform
-  registers_kept (loads x c) s rank other = put₂_other_row s.registers own x (s.cells own c) rank other
-  registers_kept (stores c v) s rank other = refl
-  registers_kept (assigns x v) s rank other = put₂_other_row s.registers own x v rank other
-  registers_kept passes s rank other = refl
-  registers_kept (issues q remote source destination) s rank other = refl
-  registers_kept meets s rank other = refl
+  registers_kept (Loads x c) s rank other = put₂_other_row s.registers own x (s.cells own c) rank other
+  registers_kept (Stores c v) s rank other = refl
+  registers_kept (Assigns x v) s rank other = put₂_other_row s.registers own x v rank other
+  registers_kept Passes s rank other = refl
+  registers_kept (Issues q remote source destination) s rank other = refl
+  registers_kept Meets s rank other = refl
 
   pub control_kept : (a : Action) (s : State Origin) → (perform own origin a s).control ≡ s.control
   unfolding perform
-  control_kept (loads x c) s = refl
-  control_kept (stores c v) s = refl
-  control_kept (assigns x v) s = refl
-  control_kept passes s = refl
-  control_kept (issues q remote source destination) s = refl
-  control_kept meets s = refl
+  control_kept (Loads x c) s = refl
+  control_kept (Stores c v) s = refl
+  control_kept (Assigns x v) s = refl
+  control_kept Passes s = refl
+  control_kept (Issues q remote source destination) s = refl
+  control_kept Meets s = refl
 
   registers_moved : (a : Action) (s : State Origin) →
       (value : ℕ) × (access_of own a s.cells ≡ access_of own a (λ rank cell. value)) ×
       ((perform own origin a s).registers own ≡ registers_after a value (s.registers own))
   unfolding perform access_of registers_after
-  registers_moved (loads x c) s = (s.cells own c, refl, put₂_row s.registers own x (s.cells own c))
-  registers_moved (stores c v) s = (0, refl, refl)
-  registers_moved (assigns x v) s = (0, refl, put₂_row s.registers own x v)
-  registers_moved passes s = (0, refl, refl)
-  registers_moved (issues q remote source destination) s = (0, refl, refl)
-  registers_moved meets s = (0, refl, refl)
+  registers_moved (Loads x c) s = (s.cells own c, refl, put₂_row s.registers own x (s.cells own c))
+  registers_moved (Stores c v) s = (0, refl, refl)
+  registers_moved (Assigns x v) s = (0, refl, put₂_row s.registers own x v)
+  registers_moved Passes s = (0, refl, refl)
+  registers_moved (Issues q remote source destination) s = (0, refl, refl)
+  registers_moved Meets s = (0, refl, refl)
 
 -- A rank keeps its local state and its count through every step that is no command of its own.
 pub record Kept (s : Replay) (rank : ℕ) (s' : Replay) : Type 0 where

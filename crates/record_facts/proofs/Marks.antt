@@ -5,7 +5,7 @@ use mathlib.Core.List.{List, map}
 use Rattle.model.specs.declared.Item.{Item}
 use Rattle.model.specs.declared.Kind.{Kind}
 use Rattle.model.specs.declared.Kind.TheVariants.{Popa, Popb}
-use Rattle.model.specs.Refusals.{ok}
+use Rattle.model.specs.Refusals.{Ok}
 use Rattle.model.specs.Choice.{Each}
 use Rattle.model.specs.ItemKinds.{is_transfer}
 use Rattle.model.specs.Programs.{Program}
@@ -73,5 +73,5 @@ module _ {P : Program} {start : Start} {local : ℕ → ℕ → Local} {items : 
 
 -- Of all items that the replay takes.
 pub marks_agree : (P : Program) (start : Start) (items : List Item) (run : Replayed) → Each (InRecord P.header) items →
-    take_items P (begin start) 0 items ≡ ok run → MarksAgree P start items run
+    take_items P (begin start) 0 items ≡ Ok run → MarksAgree P start items run
 marks_agree P start items run within h = let t = taken_run P start items run within h in agreeing t.whole t.items_of

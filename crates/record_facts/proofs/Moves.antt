@@ -3,7 +3,7 @@ use Prim.Native.Nat.{ℕ}
 use mathlib.Core.Path.{◌≡◌, refl, subst}
 use mathlib.Core.List.{List}
 use Rattle.model.specs.declared.Item.{Item}
-use Rattle.model.specs.Refusals.{ok}
+use Rattle.model.specs.Refusals.{Ok}
 use Rattle.model.specs.Programs.{Program, Transition}
 use Rattle.model.specs.Machine.{Request, Delivery, Action}
 use Rattle.model.specs.Replay.{Origin, Event, Replay, Taken, after_command, after_fetch, after_delivery, take_item}
@@ -31,7 +31,7 @@ pub data Move (P : Program) (s : Replay) : Event → Replay → Type 0 where
 abbrev pub TakenBy : (P : Program) (s : Replay) → Item → Taken → Type 0
 TakenBy P s i taken = Move P s taken.event taken.state × (taken.event.item ≡ i)
 
-pub item_taken : (P : Program) (s : Replay) (at : ℕ) (i : Item) {taken : Taken} → InRecord P.header i → take_item P s at i ≡ ok taken →
+pub item_taken : (P : Program) (s : Replay) (at : ℕ) (i : Item) {taken : Taken} → InRecord P.header i → take_item P s at i ≡ Ok taken →
     TakenBy P s i taken
 item_taken P s at i within h = go (Inversion.item_taken P s at i h)
   where
@@ -44,7 +44,7 @@ item_taken P s at i within h = go (Inversion.item_taken P s at i h)
 
 -- And a move's item is taken, whatever its number.
 pub move_takes : {P : Program} {s s' : Replay} {e : Event} → Move P s e s' → (at : ℕ) →
-    take_item P s at e.item ≡ ok (record { state = s'; event = e })
+    take_item P s at e.item ≡ Ok (record { state = s'; event = e })
 move_takes {P} {s} (commands i t a c) at = takes_item P s at i (Inversion.commands t a c.taken)
 move_takes {P} {s} (fetches i a rest c) at = takes_item P s at i (Inversion.fetches a rest c)
 move_takes {P} {s} (delivers i b rest c) at = takes_item P s at i (Inversion.delivers b rest c)

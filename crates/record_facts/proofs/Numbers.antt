@@ -1,14 +1,14 @@
 -- Numbers of list members, and queues along which they rise. A member that joins at the end with a higher number keeps them rising, and one that is
 -- taken out leaves them rising; so the oldest of the entries that pass a test has the lowest number of those.
+use Rattle.std.specs.Prelude.{Some, slice_get}
+use Rattle.model.proofs.Options.{none-ne-some, some-injective}
 use Prim.Native.Nat.{ℕ, zero, suc, ◌≤◌, ◌<◌}
 use mathlib.Core.Path.{◌≡◌, refl, sym, ◌∙◌, ap}
 use mathlib.Core.Bool.{Bool, true, false, true≢false}
 use mathlib.Core.List.Memᴰ
 use mathlib.Core.List.{List, [], ◌∷◌, ◌++◌}
 use mathlib.Core.Logic.{⊎_elim}
-use mathlib.Core.Option.{some, none-ne-some, some-injective}
 use native.Mathlib.Omega.{arith}
-use lib.ListN.{get_elem?}
 use Rattle.model.specs.Choice.{when, Each, all, one}
 use Rattle.model.specs.Lists.{◌∈◌}
 use Rattle.model.proofs.Laws.{each_append, each_at}
@@ -21,8 +21,8 @@ unfoldable pub first_number : {A : Type 0} → (A → Bool) → List A → ℕ
 first_number test [] = 0
 first_number test (a ∷ l) = when (test a) (λ _. 0) (λ _. suc (first_number test l))
 
-pub first_number_lem : {A : Type 0} (test : A → Bool) (l : List A) (i : ℕ) {a : A} → get_elem? l i ≡ some a → test a ≡ true →
-    ((k : ℕ) (b : A) → k < i → get_elem? l k ≡ some b → test b ≡ false) → first_number test l ≡ i
+pub first_number_lem : {A : Type 0} (test : A → Bool) (l : List A) (i : ℕ) {a : A} → slice_get l i ≡ Some a → test a ≡ true →
+    ((k : ℕ) (b : A) → k < i → slice_get l k ≡ Some b → test b ≡ false) → first_number test l ≡ i
 unfolding first_number
 first_number_lem test [] i at passes others = absurd (none-ne-some _ at)
 first_number_lem test (x ∷ l) zero {a} at passes others = rw (ap test (some-injective x a at) ∙ passes)

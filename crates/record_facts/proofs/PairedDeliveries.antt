@@ -1,11 +1,11 @@
 -- A popb carries on the popa of its group. That one is there for it, since no popb before has its group; and a popa that is there has its delivery in
 -- the popb's queue, where deliveries stand in the order in which they were fetched: so the one that it takes is the oldest.
+use Rattle.model.proofs.Options.{some-injective}
 use Prim.Native.Nat.{ℕ, ◌≤◌, ◌<◌}
 use mathlib.Core.Path.{◌≡◌, refl, sym, ◌∙◌, ap, subst, subst₂}
 use mathlib.Core.Bool.{true≢false}
 use mathlib.Core.List.{List, map}
 use mathlib.Core.Logic.{inl, ⊎_elim}
-use mathlib.Core.Option.{some-injective}
 use native.Mathlib.Omega.{arith}
 use lib.ListN.{take, drop, take-append-drop}
 use Rattle.model.specs.declared.Item.{Item}
@@ -15,7 +15,7 @@ use Rattle.model.specs.Programs.{Program}
 use Rattle.model.specs.Machine.{Start}
 use Rattle.model.specs.Replay.{Event, Replay, delivery_for}
 use Rattle.model.specs.HappensBefore.{At, rank_of}
-use Rattle.model.proofs.Laws.{get_elem?_take}
+use Rattle.model.proofs.Laws.{slice_get_take}
 use Rattle.model.proofs.ItemKinds.{fetch≢delivery}
 use Rattle.model.proofs.Replay.{for_rank, rank_for}
 use Rattle.record_facts.specs.Facts.{Local}
@@ -118,7 +118,7 @@ module _ {P : Program} {start : Start} {local : ℕ → ℕ → Local} {items : 
       Sending P local a.group (standing a.group (take j events) (before_delivery j at popb).before) a
   sending_there j at popb k {a} aa popa t =
       let before = before_delivery j at popb in
-      let known = group_bound before.run k a (get_elem?_take events j k t.before aa) in
+      let known = group_bound before.run k a (slice_get_take events j k t.before aa) in
       let (m, inside) = in_group_lem events j k a.group t.before aa refl in
       sending ((groups before.run).settled a.group known (inl (delivery j at popb).row)) m inside popa
       (λ l y ay kind.

@@ -1,11 +1,11 @@
 -- A popa is for the transfer of its group. That transfer is there for it, since no popa before has its group; and a transfer that is there waits in
 -- the popa's queue, where requests stand in the order in which they were issued: so the one that it takes is the oldest.
+use Rattle.model.proofs.Options.{some-injective}
 use Prim.Native.Nat.{ℕ, ◌≤◌}
 use mathlib.Core.Path.{◌≡◌, refl, sym, ◌∙◌, ap, subst, subst₂}
 use mathlib.Core.Bool.{true}
 use mathlib.Core.List.{List, map}
 use mathlib.Core.Logic.{inl}
-use mathlib.Core.Option.{some-injective}
 use native.Mathlib.Omega.{arith}
 use lib.ListN.{take, drop, take-append-drop}
 use Rattle.model.specs.declared.Item.{Item}
@@ -15,7 +15,7 @@ use Rattle.model.specs.Programs.{Program}
 use Rattle.model.specs.Machine.{Start}
 use Rattle.model.specs.Replay.{Event, Replay, request_for}
 use Rattle.model.specs.HappensBefore.{At, rank_of}
-use Rattle.model.proofs.Laws.{get_elem?_take}
+use Rattle.model.proofs.Laws.{slice_get_take}
 use Rattle.model.proofs.Replay.{for_rank, rank_for}
 use Rattle.record_facts.specs.Facts.{Local}
 use Rattle.record_facts.specs.Transfers.{IsThere, AppendsRequest, SameMarks}
@@ -90,7 +90,7 @@ module _ {P : Program} {start : Start} {local : ℕ → ℕ → Local} {items : 
       Asking P local e.group (standing e.group (take j events) (before_fetch j at popa).before) e
   asking_there j at popa i {e} ae transfer t =
       let before = before_fetch j at popa in
-      let known = group_bound before.run i e (get_elem?_take events j i t.before ae) in
+      let known = group_bound before.run i e (slice_get_take events j i t.before ae) in
       let (m, inside) = in_group_lem events j i e.group t.before ae refl in
       asking ((groups before.run).settled e.group known (inl (fetch j at popa).row)) m inside transfer
       (λ k y ay kind.

@@ -1,13 +1,13 @@
 -- What a pop of a run finds. A popa takes the oldest request that it may, and that is the request of a transfer which stands alone in its group so
 -- far; a popb takes the oldest delivery, and its group has the transfer and its popa. So a group has one transfer, the first of its events, and one
 -- popa: either is known by its group.
+use Rattle.std.specs.Prelude.{Some, None, slice_get}
 use Prim.Native.Nat.{ℕ, ◌<◌}
 use mathlib.Core.Path.{◌≡◌, refl, sym, ◌∙◌, ap}
 use mathlib.Core.Bool.{Bool, true, ◌&&◌, true≢false}
 use mathlib.Core.List.{List}
 use mathlib.Core.Logic.{inl}
-use mathlib.Core.Option.{some, none}
-use lib.ListN.{length, take, get_elem?}
+use lib.ListN.{length, take}
 use native.Mathlib.Omega.{arith}
 use borrow.Author.Tests.{eq-eqb, eqb-true}
 use Rattle.model.specs.declared.Kind.{Kind}
@@ -19,7 +19,7 @@ use Rattle.model.specs.Machine.{Start, Request, Delivery}
 use Rattle.model.specs.Replay.{Origin, Event, Replay, request_for, delivery_for}
 use Rattle.model.specs.HappensBefore.{At, rank_of}
 use Rattle.model.specs.Checks.{in_group, group_events}
-use Rattle.model.proofs.Laws.{decided, and-true, true_and, get_elem?_take, get_elem?_taken}
+use Rattle.model.proofs.Laws.{decided, and-true, true_and, slice_get_take, slice_get_taken}
 use Rattle.model.proofs.Selections.{Selected, select_at, select_from}
 use Rattle.model.proofs.ItemKinds.{same_kind_true, transfer_command, transfer_no_bar, command≢fetch, command≢delivery, fetch≢delivery}
 use Rattle.model.proofs.Replay.{Oldest, taken_oldest}
@@ -98,7 +98,7 @@ module _ (events : List Event) (j : ℕ) where
   pub in_group_lem : (k : ℕ) {y : Event} (g : ℕ) → k < j → At events k y → y.group ≡ g → (m : ℕ) × At (group_events g (take j events)) m y
   in_group_lem k {y} g less at own = (
     length (select (in_group g) (take k (take j events))),
-    select_at (in_group g) (take j events) k (get_elem?_take events j k less at) (eq-eqb y.group g own),
+    select_at (in_group g) (take j events) k (slice_get_take events j k less at) (eq-eqb y.group g own),
   )
 
   pub record Numbered (g : ℕ) (y : Event) : Type 0 where
@@ -110,7 +110,7 @@ module _ (events : List Event) (j : ℕ) where
   pub from_group : (g m : ℕ) {y : Event} → At (group_events g (take j events)) m y → Numbered g y
   from_group g m {y} at =
       let found : Selected (in_group g) (take j events) m y = select_from (in_group g) (take j events) m at in
-      let (there, before) = get_elem?_taken events j found.i found.at in
+      let (there, before) = slice_get_taken events j found.i found.at in
       record { number = found.i; at = there; before = before; own = eqb-true y.group g found.passes }
 
 -- The number of the one event of a group whose kind passes a test.
@@ -136,7 +136,7 @@ number_of_lem events test i {e} at passes others =
 
 -- The one of the event's own group.
 unfoldable pub partner : List Event → (Kind → Bool) → (j : ℕ) → ℕ
-partner events test j = elim (get_elem? events j) [ none ↦ 0 | some x ↦ number_of events test x.group ]
+partner events test j = elim (slice_get events j) [ None ↦ 0 | Some x ↦ number_of events test x.group ]
 
 pub partner_of : (events : List Event) (test : Kind → Bool) (j : ℕ) {x : Event} → At events j x → {g : ℕ} → x.group ≡ g →
     partner events test j ≡ number_of events test g

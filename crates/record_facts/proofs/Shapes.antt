@@ -1,13 +1,13 @@
 -- The numbers and the shapes of groups. An event's group is numbered, since groups not yet numbered have no event; a command that opens a group has
 -- a higher number than all before it; a bar that joins a row stands right behind another of the row. At the end the queues are quiet, so every
 -- group has its last shape.
+use Rattle.model.proofs.Options.{none-ne-some}
 use Prim.Native.Nat.{ℕ, zero, suc, ◌+◌, ◌-◌, ◌<◌, ◌≤◌}
 use native.Mathlib.Omega.{arith}
 use mathlib.Core.Path.{◌≡◌, refl, sym, ◌∙◌, ap}
 use mathlib.Core.Bool.{Bool, true, false, false≢true}
 use mathlib.Core.List.{List, [], ◌∷◌, ◌++◌}
 use mathlib.Core.Logic.{inl}
-use mathlib.Core.Option.{none-ne-some}
 use lib.Dec.{leb, eqb}
 use lib.ListN.{length, length-append}
 use lib.Seq.{length-take-le}
@@ -19,7 +19,7 @@ use Rattle.model.specs.Machine.{Start, State}
 use Rattle.model.specs.Replay.{Origin, Event, Replay, begin, joins_row, every, is_empty, quiet}
 use Rattle.model.specs.HappensBefore.{At, is_command}
 use Rattle.model.specs.Checks.{group_events}
-use Rattle.model.proofs.Laws.{and-true, decided, get_elem?_bound, get_elem?_take, get_elem?_taken}
+use Rattle.model.proofs.Laws.{and-true, decided, slice_get_bound, slice_get_take, slice_get_taken}
 use Rattle.record_facts.specs.Facts.{Local, Shape}
 use Rattle.record_facts.proofs.Moves.{Move, commands, fetches, delivers}
 use Rattle.record_facts.proofs.Trajectory.{Run, begins, grows, move_at}
@@ -89,7 +89,7 @@ module _ {P : Program} {start : Start} {local : ℕ → ℕ → Local} where
         x.group < e.group
     opens i j e x at own first less earlier =
         let here = move_at run i e at in
-        rw (move_opens here.step own first) (group_bound here.run j x (get_elem?_take events i j less earlier))
+        rw (move_opens here.step own first) (group_bound here.run j x (slice_get_take events i j less earlier))
 
     -- A bar that joins a row follows another of its group.
     pub joins : (i : ℕ) (e : Event) → At events i e → joins_row e.item ≡ true →
@@ -98,7 +98,7 @@ module _ {P : Program} {start : Start} {local : ℕ → ℕ → Local} where
         let here = move_at run i e at in
         let (positive, group) = move_joins here.step joined in
         let (j, x, last, before, same) = last_event here.run positive in
-        (j, x, last ∙ length-take-le i events (omega (arith, get_elem?_bound events i at)), (get_elem?_taken events i j before).0, same ∙ sym group)
+        (j, x, last ∙ length-take-le i events (omega (arith, slice_get_bound events i at)), (slice_get_taken events i j before).0, same ∙ sym group)
 
 -- A test that all numbers of a range pass.
 every_at : (test : ℕ → Bool) (first count n : ℕ) → every test (numbers_from first count) ≡ true → first ≤ n → n < first + count → test n ≡ true

@@ -1,5 +1,6 @@
 -- How a step changes what groups have: its event's group gets the event, and the entry that is appended or taken out; all others stay as they
 -- stand.
+use Rattle.model.specs.declared.Action.TheVariants.{Loads, Stores, Assigns, Passes, Issues, Meets}
 use Prim.Native.Nat.{ℕ}
 use mathlib.Core.Path.{◌≡◌, refl, sym, ◌∙◌, ap}
 use mathlib.Core.Bool.{false, true≢false}
@@ -9,7 +10,7 @@ use Rattle.model.specs.declared.Item.{Item}
 use Rattle.model.specs.declared.Kind.{Kind}
 use Rattle.model.specs.ItemKinds.{is_transfer}
 use Rattle.model.specs.Programs.{Program, Transition}
-use Rattle.model.specs.Machine.{State, Request, Delivery, move_to, set_cell, set_requests, set_deliveries, Action, loads, stores, assigns, passes, issues, meets}
+use Rattle.model.specs.Machine.{State, Request, Delivery, move_to, set_cell, set_requests, set_deliveries, Action}
 use Rattle.model.specs.Replay.{Origin, Event, Replay, perform, origin_of, after_command, sent_on, after_fetch, after_delivery}
 use Rattle.model.proofs.Replay.{FetchTaken, DeliveryTaken, taken_oldest}
 use Rattle.record_facts.proofs.Actions.{Fits}
@@ -27,32 +28,32 @@ same_standing p q r = λ i. record { events = p i; requests = q i; deliveries = 
 module _ (own : ℕ) (origin : Origin) where
   performed_deliveries : (a : Action) (s : State Origin) → (perform own origin a s).deliveries ≡ s.deliveries
   unfolding perform
-  performed_deliveries (loads x c) s = refl
-  performed_deliveries (stores c v) s = refl
-  performed_deliveries (assigns x v) s = refl
-  performed_deliveries passes s = refl
-  performed_deliveries (issues q remote source destination) s = refl
-  performed_deliveries meets s = refl
+  performed_deliveries (Loads x c) s = refl
+  performed_deliveries (Stores c v) s = refl
+  performed_deliveries (Assigns x v) s = refl
+  performed_deliveries Passes s = refl
+  performed_deliveries (Issues q remote source destination) s = refl
+  performed_deliveries Meets s = refl
 
   performed_requests : (P : Program) (kind : Kind) (a : Action) (s : State Origin) → Fits P a kind → is_transfer kind ≡ false →
       (perform own origin a s).requests ≡ s.requests
   unfolding perform
-  performed_requests P kind (loads x c) s fits plain = refl
-  performed_requests P kind (stores c v) s fits plain = refl
-  performed_requests P kind (assigns x v) s fits plain = refl
-  performed_requests P kind passes s fits plain = refl
-  performed_requests P kind (issues q remote source destination) s fits plain = absurd (true≢false (sym fits.0 ∙ plain))
-  performed_requests P kind meets s fits plain = refl
+  performed_requests P kind (Loads x c) s fits plain = refl
+  performed_requests P kind (Stores c v) s fits plain = refl
+  performed_requests P kind (Assigns x v) s fits plain = refl
+  performed_requests P kind Passes s fits plain = refl
+  performed_requests P kind (Issues q remote source destination) s fits plain = absurd (true≢false (sym fits.0 ∙ plain))
+  performed_requests P kind Meets s fits plain = refl
 
   performed_other : (g : ℕ) (a : Action) (s : State Origin) → ¬ (origin.group ≡ g) →
       of_group request_group g (perform own origin a s).requests ≡ of_group request_group g s.requests
   unfolding perform
-  performed_other g (loads x c) s other = refl
-  performed_other g (stores c v) s other = refl
-  performed_other g (assigns x v) s other = refl
-  performed_other g passes s other = refl
-  performed_other g (issues q remote source destination) s other = append_other request_group s.requests own q _ g other
-  performed_other g meets s other = refl
+  performed_other g (Loads x c) s other = refl
+  performed_other g (Stores c v) s other = refl
+  performed_other g (Assigns x v) s other = refl
+  performed_other g Passes s other = refl
+  performed_other g (Issues q remote source destination) s other = append_other request_group s.requests own q _ g other
+  performed_other g Meets s other = refl
 
 -- Every group but the event's stays as it stands.
 other_fetch : (s : Replay) (done : List Event) (i : Item) (a : Request Origin) (rest : List (Request Origin)) → FetchTaken s i a rest → (g : ℕ) →
@@ -98,12 +99,12 @@ module _ (s : Replay) (done : List Event) where
 
   -- The group of a transfer gets its event and its request.
   pub stands_transfer : (P : Program) (i : Item) (t : Transition) (q remote : ℕ) (source destination : Address) →
-      let g = (origin_of s i).group in let after = after_command P s i t.target (issues q remote source destination) in
+      let g = (origin_of s i).group in let after = after_command P s i t.target (Issues q remote source destination) in
       standing g (done ++ after.event ∷ []) after.state ≡
       plus_request i.rank q (request_of g after.event remote source destination) (plus_event after.event (standing g done s))
   unfolding move_to perform
   stands_transfer P i t q remote source destination =
-      same_standing (group_own done (after_command P s i t.target (issues q remote source destination)).event)
+      same_standing (group_own done (after_command P s i t.target (Issues q remote source destination)).event)
       (append_own request_group s.machine.requests i.rank q _ (origin_of s i).group refl)
       refl
 

@@ -1,22 +1,22 @@
 -- A group as it stands in the middle of a run: its events so far, and its entries in the queues. A transfer is issued (a request waits), fetched (a
 -- delivery waits) or delivered; every other group has no entry. A pop takes its transfer one stage on; once the queues are quiet, each group has
 -- one of its last shapes.
+use Rattle.model.specs.declared.Action.TheVariants.{Issues}
+use Rattle.std.specs.Prelude.{Some, slice_get}
 use Prim.Native.Nat.{ℕ, ◌<◌, ◌≤◌}
 use mathlib.Core.Path.{◌≡◌, refl, sym, ◌∙◌, ap}
 use mathlib.Core.Bool.{true, false, ◌&&◌}
 use mathlib.Core.List.{List, [], ◌∷◌, ◌++◌, map}
-use mathlib.Core.Option.{some}
 use lib.Dec.{eqb}
-use lib.ListN.{get_elem?}
 use borrow.Author.Tests.{eqb-true}
 use Rattle.model.specs.declared.Address.{Address}
 use Rattle.model.specs.declared.Kind.{Kind}
 use Rattle.model.specs.declared.Kind.TheVariants.{Popa, Popb, Bar}
-use Rattle.model.specs.Refusals.{ok}
+use Rattle.model.specs.Refusals.{Ok}
 use Rattle.model.specs.Choice.{numbers_from, Each}
 use Rattle.model.specs.ItemKinds.{is_bar, is_transfer}
 use Rattle.model.specs.Programs.{Program, Transition}
-use Rattle.model.specs.Machine.{Request, Delivery, read_of, write_of, put₂, issues, action}
+use Rattle.model.specs.Machine.{Request, Delivery, read_of, write_of, put₂, action}
 use Rattle.model.specs.Replay.{Origin, Event, Replay, is_for}
 use Rattle.model.specs.HappensBefore.{is_command, rank_of}
 use Rattle.model.specs.Checks.{group_events}
@@ -89,13 +89,13 @@ left_deliveries rank queue left w =
     record { events = w.events; requests = w.requests; deliveries = put₂ w.deliveries rank queue left }
 
 -- An event that issues a transfer, on a queue of its rank.
-pub record Issues (P : Program) (local : ℕ → ℕ → Local) (e : Event) (remote : ℕ) (source destination : Address) : Type 0 where
+pub record Issuing (P : Program) (local : ℕ → ℕ → Local) (e : Event) (remote : ℕ) (source destination : Address) : Type 0 where
   pub kind : is_transfer e.item.kind ≡ true
   pub low : 1 ≤ rank_of e
   pub high : rank_of e ≤ P.header.ranks
   pub queue : e.queue < P.header.queues
-  pub acts : (at : ℕ) (t : Transition) → get_elem? P.transitions e.item.transition ≡ some t →
-      action P (rank_of e) (local (rank_of e) e.place).registers at t.command ≡ ok (issues e.queue remote source destination)
+  pub acts : (at : ℕ) (t : Transition) → slice_get P.transitions e.item.transition ≡ Some t →
+      action P (rank_of e) (local (rank_of e) e.place).registers at t.command ≡ Ok (Issues e.queue remote source destination)
 
 -- The request of a transfer, and its delivery.
 abbrev pub request_of : (g : ℕ) → Event → (remote : ℕ) → (source destination : Address) → Request Origin
@@ -112,14 +112,14 @@ pub data Status (P : Program) (local : ℕ → ℕ → Local) (g : ℕ) : Standi
       Status P local g (resting (e ∷ []))
   closed : (bars : List Event) → Each (λ e. e.item.kind ≡ Bar) bars → map rank_of bars ≡ numbers_from 1 P.header.ranks →
       Status P local g (resting bars)
-  issued : (e : Event) (remote : ℕ) (source destination : Address) → Issues P local e remote source destination →
+  issued : (e : Event) (remote : ℕ) (source destination : Address) → Issuing P local e remote source destination →
       Status P local g
       (record {
         events = e ∷ [];
         requests = only (rank_of e) e.queue (request_of g e remote source destination);
         deliveries = nothing;
       })
-  fetched : (e a : Event) (remote : ℕ) (source destination : Address) (value : ℕ) → Issues P local e remote source destination →
+  fetched : (e a : Event) (remote : ℕ) (source destination : Address) (value : ℕ) → Issuing P local e remote source destination →
       PopOf Popa e a → is_for a.item.remote remote ≡ true → a.access ≡ read_of source value →
       Status P local g
       (record {

@@ -3,19 +3,19 @@
 --
 -- A rank's local state after so many commands of its own is the one of the first state in which it has taken that many. It is computed along the
 -- steps still to come (`Path`), and the growing run keeps that the state at hand is the local state that was foretold.
+use Rattle.model.proofs.Options.{none-ne-some}
 use Prim.Native.Nat.{ℕ, zero, suc, ◌+◌, ◌≤◌}
 use native.Mathlib.Nat.{le_refl, le_trans}
 use native.Mathlib.Omega.{arith}
 use mathlib.Core.Path.{◌≡◌, refl, sym, ◌∙◌, ap, ap₂}
 use mathlib.Core.Bool.{true}
 use mathlib.Core.List.{List, [], ◌∷◌, ◌++◌, map, map-append, append-nil, append_assoc}
-use mathlib.Core.Option.{none-ne-some}
 use mathlib.Core.Logic.{◌⊎◌, inl, inr}
 use lib.Dec.{leb}
 use lib.ListN.{length, take}
 use borrow.Author.Tests.{leb-true, le-leb}
 use Rattle.model.specs.declared.Item.{Item}
-use Rattle.model.specs.Refusals.{ok}
+use Rattle.model.specs.Refusals.{Ok}
 use Rattle.model.specs.Choice.{when, Each, all, one}
 use Rattle.model.specs.Programs.{Program}
 use Rattle.model.specs.Machine.{Start}
@@ -35,7 +35,7 @@ pub data Path (P : Program) : Replay → List Event → Replay → Type 0 where
 
 -- An accepted list makes a path, by events of its items.
 pub path : (P : Program) (s : Replay) (at : ℕ) (items : List Item) (run : Replayed) → Each (InRecord P.header) items →
-    take_items P s at items ≡ ok run → Path P s run.events run.last × (map (λ e. e.item) run.events ≡ items)
+    take_items P s at items ≡ Ok run → Path P s run.events run.last × (map (λ e. e.item) run.events ≡ items)
 unfolding take_items
 path P s at [] run all h = rw (← (ok_injective h)) (here, refl)
 path P s at (i ∷ items) run (one within rest) h =
@@ -91,7 +91,7 @@ local_now (grows run step h) rank = h rank
 
 -- A run's items are taken, to its state and by its events.
 pub run_taken : {P : Program} {start : Start} {local : ℕ → ℕ → Local} {done : List Event} {s : Replay} → Run P start local done s →
-    take_items P (begin start) 0 (map (λ e. e.item) done) ≡ ok (record { last = s; events = done })
+    take_items P (begin start) 0 (map (λ e. e.item) done) ≡ Ok (record { last = s; events = done })
 unfolding take_items
 run_taken (begins h) = refl
 run_taken {P} {start} (grows {done = done} {s = s} {e = e} run step h) =
@@ -122,7 +122,7 @@ pub record TakenRun (P : Program) (start : Start) (items : List Item) (run : Rep
   pub items_of : map (λ e. e.item) run.events ≡ items
 
 pub taken_run : (P : Program) (start : Start) (items : List Item) (run : Replayed) → Each (InRecord P.header) items →
-    take_items P (begin start) 0 items ≡ ok run → TakenRun P start items run
+    take_items P (begin start) 0 items ≡ Ok run → TakenRun P start items run
 unfolding begin
 taken_run P start items run within taken =
     let (p, items_of) = path P (begin start) 0 items run within taken in
@@ -135,7 +135,7 @@ pub record AcceptedRun (P : Program) (start : Start) (items : List Item) (run : 
   pub all_quiet : quiet P run.last.machine ≡ true
 
 pub accepted : (P : Program) (start : Start) (items : List Item) (run : Replayed) → Each (InRecord P.header) items →
-    replay P start items ≡ ok run → AcceptedRun P start items run
+    replay P start items ≡ Ok run → AcceptedRun P start items run
 accepted P start items run within h =
     let (taken, ended) = replay_taken P start items h in
     record { taken = taken_run P start items run within taken; no_row = ended.no_row; all_quiet = ended.all_quiet }

@@ -1,12 +1,12 @@
 -- What a group's standing tells of its entries. A request that it has is its transfer's, which is issued and no more; a delivery is its transfer's,
 -- which is fetched. And the other way round: a transfer that no popa has taken on has its request in its queue, and a fetch that no popb has taken on
 -- its delivery.
+use Rattle.model.proofs.Options.{none-ne-some, some-injective}
 use Prim.Native.Nat.{ℕ, zero, suc}
 use mathlib.Core.Path.{◌≡◌, refl, sym, ◌∙◌, ap, subst, subst₂}
 use mathlib.Core.Bool.{Bool, true, true≢false}
 use mathlib.Core.List.{List, [], ◌∷◌}
 use mathlib.Core.Logic.{◌⊎◌, inl, inr, ⊎_elim}
-use mathlib.Core.Option.{none-ne-some, some-injective}
 use Rattle.model.specs.declared.Address.{Address}
 use Rattle.model.specs.declared.Kind.TheVariants.{Popa, Popb}
 use Rattle.model.specs.Lists.{◌∈◌}
@@ -20,7 +20,7 @@ use Rattle.model.proofs.Lists.{here}
 use Rattle.model.proofs.Selections.{select_within}
 use Rattle.record_facts.specs.Facts.{Local, PopOf}
 use Rattle.record_facts.proofs.Queues.{Out, out_nothing, of_own, entries_of}
-use Rattle.record_facts.proofs.Status.{Standing, nothing, Issues, request_of, delivery_of, Status, alone, closed, issued, fetched, delivered, only_there}
+use Rattle.record_facts.proofs.Status.{Standing, nothing, Issuing, request_of, delivery_of, Status, alone, closed, issued, fetched, delivered, only_there}
 
 -- The members of a list of one and of two.
 pub in_one : {x e : Event} (m : ℕ) → At (x ∷ []) m e → x ≡ e
@@ -36,7 +36,7 @@ pub record Asked (P : Program) (local : ℕ → ℕ → Local) (was : Standing) 
   pub e : Event
   pub source : Address
   pub destination : Address
-  pub issue : Issues P local e a.remote source destination
+  pub issue : Issuing P local e a.remote source destination
   pub events : was.events ≡ e ∷ []
   pub rank_is : rank ≡ rank_of e
   pub queue_is : queue ≡ e.queue
@@ -52,7 +52,7 @@ asked {P} {local} {g} {rank = rank} {queue} (issued e remote source destination 
       e = e;
       source = source;
       destination = destination;
-      issue = subst (λ n. Issues P local e n source destination) (ap (λ r. r.remote) (sym there.entry)) issue;
+      issue = subst (λ n. Issuing P local e n source destination) (ap (λ r. r.remote) (sym there.entry)) issue;
       events = refl;
       rank_is = there.rank_is;
       queue_is = there.queue_is;
@@ -67,7 +67,7 @@ pub record Sent (P : Program) (local : ℕ → ℕ → Local) (was : Standing) (
   pub a : Event
   pub source : Address
   pub destination : Address
-  pub issue : Issues P local e b.remote source destination
+  pub issue : Issuing P local e b.remote source destination
   pub fetch : PopOf Popa e a
   pub events : was.events ≡ e ∷ a ∷ []
   pub rank_is : rank ≡ rank_of e
@@ -86,7 +86,7 @@ sent {P} {local} {g} {rank = rank} {queue} (fetched e a remote source destinatio
       a = a;
       source = source;
       destination = destination;
-      issue = subst (λ n. Issues P local e n source destination) (ap (λ d. d.remote) (sym there.entry)) issue;
+      issue = subst (λ n. Issuing P local e n source destination) (ap (λ d. d.remote) (sym there.entry)) issue;
       fetch = popa;
       events = refl;
       rank_is = there.rank_is;
@@ -100,7 +100,7 @@ pub record Asking (P : Program) (local : ℕ → ℕ → Local) (g : ℕ) (was :
   pub remote : ℕ
   pub source : Address
   pub destination : Address
-  pub issue : Issues P local e remote source destination
+  pub issue : Issuing P local e remote source destination
   pub waits : was.requests (rank_of e) e.queue ≡ request_of g e remote source destination ∷ []
 
 pub asking : {P : Program} {local : ℕ → ℕ → Local} {g : ℕ} {was : Standing} → Status P local g was →
@@ -122,7 +122,7 @@ pub record Sending (P : Program) (local : ℕ → ℕ → Local) (g : ℕ) (was 
   pub source : Address
   pub destination : Address
   pub value : ℕ
-  pub issue : Issues P local e remote source destination
+  pub issue : Issuing P local e remote source destination
   pub fetch : PopOf Popa e a
   pub events : was.events ≡ e ∷ a ∷ []
   pub waits : was.deliveries (rank_of e) e.queue ≡ delivery_of g e remote destination value ∷ []

@@ -1,17 +1,16 @@
 -- What holds of the events of every accepted record, whatever the state was: the facts from which serializability is argued. Each rank goes its own
 -- way by what it loads; a cell holds what was last written; a group is a command, a transfer with its two pops, or a barrier row.
-use Rattle.std.specs.Prelude.{ℕ, suc, ◌<◌, ◌≡◌, Bool, true, false, ◌&&◌, List, [], ◌∷◌, map, eqb, length, take}
-use Rattle.std.proofs.Math.Option.{Option, some, none}
-use Rattle.std.proofs.Math.ListN.{get_elem?}
+use Rattle.model.specs.declared.Action.TheVariants.{Loads, Stores, Assigns, Passes, Issues, Meets}
+use Rattle.std.specs.Prelude.{ℕ, suc, ◌<◌, ◌≡◌, Bool, true, false, ◌&&◌, List, [], ◌∷◌, map, eqb, length, take, Option, Some, None, slice_get}
 use Rattle.model.specs.declared.Address.{Address}
 use Rattle.model.specs.declared.Item.{Item}
 use Rattle.model.specs.declared.Kind.{Kind}
 use Rattle.model.specs.declared.Kind.TheVariants.{Popa, Popb, Bar}
-use Rattle.model.specs.Refusals.{ok}
+use Rattle.model.specs.Refusals.{Ok}
 use Rattle.model.specs.Choice.{when, select, numbers_from, Each}
 use Rattle.model.specs.ItemKinds.{is_bar, is_transfer}
 use Rattle.model.specs.Programs.{Program, Transition, kind_of}
-use Rattle.model.specs.Machine.{Start, Access, read_of, write_of, put, put₂, Action, loads, stores, assigns, passes, issues, meets, action}
+use Rattle.model.specs.Machine.{Start, Access, read_of, write_of, put, put₂, Action, action}
 use Rattle.model.specs.Replay.{Event, Replayed, joins_row, agrees_with, access_of, queue_of, is_for}
 use Rattle.model.specs.HappensBefore.{At, is_command, rank_of}
 use Rattle.model.specs.Traces.{command_of}
@@ -31,8 +30,8 @@ bars_of rank events = length (select (bar_of rank) events)
 -- The cells after these events: the last write to a cell counts.
 unfoldable pub written : Start → Option Access → Start
 unfolding put₂
-written cells none = cells
-written cells (some a) =
+written cells None = cells
+written cells (Some a) =
     when a.writes (λ _. put₂ cells a.address.rank a.address.cell a.value) (λ _. cells)
 
 unfoldable pub cells_after : Start → List Event → Start
@@ -51,12 +50,12 @@ initial_local = record { control = 0; registers = λ index. 0 }
 -- The registers after an action; `value` is what a load reads.
 unfoldable pub registers_after : Action → (value : ℕ) → (ℕ → ℕ) → ℕ → ℕ
 unfolding put
-registers_after (loads x a) value registers = put registers x value
-registers_after (stores a v) value registers = registers
-registers_after (assigns x v) value registers = put registers x v
-registers_after passes value registers = registers
-registers_after (issues q remote source destination) value registers = registers
-registers_after meets value registers = registers
+registers_after (Loads x a) value registers = put registers x value
+registers_after (Stores a v) value registers = registers
+registers_after (Assigns x v) value registers = put registers x v
+registers_after Passes value registers = registers
+registers_after (Issues q remote source destination) value registers = registers
+registers_after Meets value registers = registers
 
 -- A command event takes its rank from one local state to the next: what the rank does depends on its local state and on what it loads, and on nothing
 -- else.
@@ -64,10 +63,10 @@ pub record CommandStep (P : Program) (l : Local) (e : Event) (l' : Local) : Type
   pub transition : Transition
   pub act : Action
   pub value : ℕ
-  pub taken : get_elem? P.transitions e.item.transition ≡ some transition
+  pub taken : slice_get P.transitions e.item.transition ≡ Some transition
   pub from : transition.source ≡ l.control
   pub kind : kind_of transition.command ≡ e.item.kind
-  pub acts : (at : ℕ) → action P (rank_of e) l.registers at transition.command ≡ ok act
+  pub acts : (at : ℕ) → action P (rank_of e) l.registers at transition.command ≡ Ok act
   pub access : e.access ≡ access_of (rank_of e) act (λ rank cell. value)
   pub queue : e.queue ≡ queue_of act
   pub control : l'.control ≡ transition.target
@@ -95,8 +94,8 @@ pub record TransferOf (P : Program) (local : ℕ → ℕ → Local) (e a b : Eve
   pub delivery_for_lem : is_for b.item.remote remote ≡ true
   pub reads : a.access ≡ read_of source value
   pub writes : b.access ≡ write_of destination value
-  pub acts : (at : ℕ) (t : Transition) → get_elem? P.transitions e.item.transition ≡ some t →
-      action P (rank_of e) (local (rank_of e) e.place).registers at t.command ≡ ok (issues e.queue remote source destination)
+  pub acts : (at : ℕ) (t : Transition) → slice_get P.transitions e.item.transition ≡ Some t →
+      action P (rank_of e) (local (rank_of e) e.place).registers at t.command ≡ Ok (Issues e.queue remote source destination)
 
 -- "A group is a read or write with its popa and popb; a barrier row; or any other single command item."
 pub data Shape (P : Program) (local : ℕ → ℕ → Local) : List Event → Type 0 where
@@ -117,7 +116,7 @@ pub record Facts (P : Program) (start : Start) (items : List Item) (run : Replay
   pub registers_end : (rank : ℕ) → run.last.machine.registers rank ≡ (local rank (count_of rank run.events)).registers
   pub place_of : (i : ℕ) (e : Event) → At run.events i e → is_command e ≡ true → e.place ≡ count_of (rank_of e) (take i run.events)
   -- the cells: a read finds what was last written
-  pub reads : (i : ℕ) (e : Event) (a : Access) → At run.events i e → e.access ≡ some a → a.writes ≡ false →
+  pub reads : (i : ℕ) (e : Event) (a : Access) → At run.events i e → e.access ≡ Some a → a.writes ≡ false →
       a.value ≡ cells_after start (take i run.events) a.address.rank a.address.cell
   pub cells_end : (rank cell : ℕ) → run.last.machine.cells rank cell ≡ cells_after start run.events rank cell
   -- the groups: numbered by their first item, each of one of three shapes

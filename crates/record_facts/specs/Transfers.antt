@@ -4,23 +4,22 @@
 --
 -- An entry is known here by the number of the item that appended it. The marks which travel with the replay's entries have no part in the relation
 -- (`Paired`); that they say the same is `MarksAgree`.
-use Rattle.std.specs.Prelude.{ℕ, ◌<◌, ◌≤◌, ◌≡◌, true, List, ◌⊎◌, take}
-use Rattle.std.proofs.Math.Option.{some}
-use Rattle.std.proofs.Math.ListN.{get_elem?}
+use Rattle.model.specs.declared.Action.TheVariants.{Issues}
+use Rattle.std.specs.Prelude.{ℕ, ◌<◌, ◌≤◌, ◌≡◌, true, List, ◌⊎◌, take, Some, slice_get}
 use Rattle.model.specs.declared.Address.{Address}
 use Rattle.model.specs.declared.Item.{Item}
 use Rattle.model.specs.declared.Kind.{Kind}
 use Rattle.model.specs.declared.Kind.TheVariants.{Popa, Popb}
-use Rattle.model.specs.Refusals.{ok}
+use Rattle.model.specs.Refusals.{Ok}
 use Rattle.model.specs.ItemKinds.{is_transfer}
 use Rattle.model.specs.Programs.{Program, Transition}
-use Rattle.model.specs.Machine.{Start, issues, action}
+use Rattle.model.specs.Machine.{Start, action}
 use Rattle.model.specs.Replay.{Event, Replayed, begin, take_items}
 use Rattle.model.specs.HappensBefore.{At}
 
 -- Item j is a pop of this kind.
 pub record PopAt (items : List Item) (kind : Kind) (j : ℕ) (pop : Item) : Type 0 where
-  pub at : get_elem? items j ≡ some pop
+  pub at : slice_get items j ≡ Some pop
   pub kind_is : pop.kind ≡ kind
 
 -- First in, first out. Some items append an entry to a queue of a rank, for a remote rank, and the pops of a kind take them: pop j takes the entry
@@ -48,12 +47,12 @@ pub record AppendsRequest (P : Program) (start : Start) (items : List Item) (ran
   pub left : Replayed
   pub source : Address
   pub destination : Address
-  pub at : get_elem? items i ≡ some item
+  pub at : slice_get items i ≡ Some item
   pub kind : is_transfer item.kind ≡ true
   pub own : item.rank ≡ rank
-  pub takes : get_elem? P.transitions item.transition ≡ some transition
-  pub leave : take_items P (begin start) 0 (take i items) ≡ ok left
-  pub asks : action P rank (left.last.machine.registers rank) i transition.command ≡ ok (issues queue remote source destination)
+  pub takes : slice_get P.transitions item.transition ≡ Some transition
+  pub leave : take_items P (begin start) 0 (take i items) ≡ Ok left
+  pub asks : action P rank (left.last.machine.registers rank) i transition.command ≡ Ok (Issues queue remote source destination)
 
 -- Item i is a popa, which appends a delivery for the remote rank of its transfer, `transfer_of i`: "A pending request now remembers its remote rank ..
 -- and so does its delivery."

@@ -2,7 +2,7 @@
 use Rattle.std.specs.Prelude.{ℕ, ◌≡◌, List, eqb, length}
 use Rattle.model.specs.declared.Header.{Header}
 use Rattle.model.specs.declared.Item.{Item}
-use Rattle.model.specs.Refusals.{Result, ok, refused, ◌>>=◌, barrier_row, queues_left}
+use Rattle.model.specs.Refusals.{Result, Ok, Err, ◌>>=◌, barrier_row, queues_left}
 use Rattle.model.specs.Choice.{when}
 use Rattle.model.specs.Programs.{Program, read_program}
 use Rattle.model.specs.Records.{read_record_in, read_record}
@@ -18,8 +18,7 @@ use Rattle.trails.specs.Trails.{trail_of, trail_size}
 use Rattle.runs.specs.declared.Reached.{Reached}
 use Rattle.runs.specs.Items.{Went, standing}
 use Rattle.runs.specs.Promise.{went_from}
-use Rattle.replay.specs.declared.Acceptance as Acceptance
-use Rattle.replay.specs.declared.Acceptance.{Acceptance}
+use Rattle.replay.specs.declared.Accepted as handed
 
 -- The contents of the lent arrays.
 pub record Lent : Type 0 where
@@ -29,9 +28,13 @@ pub record Lent : Type 0 where
 abbrev pub lent : (cells trail : Table) → Lent
 lent cells trail = record { cells = cells; trail = trail }
 
+-- The answer: what the code tells of an accepted record, or the refusal.
+abbrev pub Acceptance : Type 0
+Acceptance = Result handed.Accepted
+
 abbrev pub answer_of : Result Accepted → Acceptance
-answer_of (ok a) = Acceptance.TheVariants.Accepted a.program.header (length a.run.events) a.run.last.opened
-answer_of (refused r) = Acceptance.TheVariants.Refused r
+answer_of (Ok a) = Ok (record { header = a.program.header; items = (length a.run.events); groups = a.run.last.opened })
+answer_of (Err r) = Err r
 
 -- What is handed over of an accepted record: its last cells and, in a trail that was cleared, a row for each item.
 pub record Hands (a : Accepted) (told : Table) (after : Lent) : Type 0 where
@@ -41,12 +44,12 @@ pub record Hands (a : Accepted) (told : Table) (after : Lent) : Type 0 where
 -- The answer by an acceptance, and what is handed over then; `told` is what the trail held before.
 pub record Answers (accepted : Result Accepted) (told : Table) (after : Lent) (r : Acceptance) : Type 0 where
   pub answers : r ≡ answer_of accepted
-  pub hands : (a : Accepted) → accepted ≡ ok a → Hands a told after
+  pub hands : (a : Accepted) → accepted ≡ Ok a → Hands a told after
 
 -- What the lent arrays hold at the end, whatever is answered: what they held where a refusal was found.
 abbrev pub unless_refused : {A : Type 0} → Lent → Result A → (A → Lent) → Lent
-unless_refused before (ok a) rest = rest a
-unless_refused before (refused r) rest = before
+unless_refused before (Ok a) rest = rest a
+unless_refused before (Err r) rest = before
 
 abbrev pub went_to : Went → Lent
 went_to went = lent (standing went).memory.cells (standing went).trail
@@ -80,7 +83,7 @@ unfoldable pub accept_items : Program → Start → List Item → Result Accepte
 unfolding replay
 accept_items P start items = do
   run ← replay P start items
-  ok (record { program = P; readings = start; run = run })
+  Ok (record { program = P; readings = start; run = run })
 
 unfoldable pub accept_record : Program → Start → (recorded : List ℕ) → Result Accepted
 unfolding read_record_in accept_items
@@ -100,6 +103,6 @@ end_of header items reached =
     when (eqb reached.row 0)
     (λ _.
     when reached.quiet
-    (λ _. Acceptance.TheVariants.Accepted header items reached.groups)
-    (λ _. Acceptance.TheVariants.Refused (record { number = queues_left; place = items })))
-    (λ _. Acceptance.TheVariants.Refused (record { number = barrier_row; place = items }))
+    (λ _. Ok (record { header = header; items = items; groups = reached.groups }))
+    (λ _. Err (record { number = queues_left; place = items })))
+    (λ _. Err (record { number = barrier_row; place = items }))

@@ -4,8 +4,8 @@ use Prim.Native.Nat.{ℕ, zero, suc, ◌+◌, ◌-◌, ◌≤◌, ◌<◌, min}
 use mathlib.Core.Path.{◌≡◌, refl, sym, ap, ◌∙◌, subst}
 use mathlib.Core.Logic.{◌⊎◌, inl, inr, ⊎_elim}
 use mathlib.Core.List.Memᴰ
-use mathlib.Core.List.{List, ◌∷◌}
-use native.Mathlib.Nat.{min-le_left, min-le_right}
+use mathlib.Core.List.{List, [], ◌∷◌}
+use native.Mathlib.Nat.{min-le_right}
 use native.Mathlib.Numerals.{add-one}
 use native.Mathlib.Omega.{arith}
 use lib.Dec.{eqb, ltb}
@@ -18,8 +18,8 @@ use Rattle.model.specs.Lists.{◌∈◌}
 use Rattle.model.proofs.Laws.{decided}
 use Rattle.model.proofs.Lists.{here, there}
 use Rattle.memory.specs.Tables.{Table}
-use Rattle.chains.specs.Chains.{members, older_in}
-use Rattle.chains.proofs.Chains.{no_members, members_first}
+use Rattle.chains.specs.Chains.{members}
+use Rattle.chains.proofs.Chains.{no_members}
 use Rattle.graph.specs.Edges.{target_at}
 use Rattle.ordering.specs.Walks.{Walk, stay, step, Passes}
 use Rattle.ordering.proofs.Lengths.{walk_join}
@@ -27,10 +27,9 @@ use Rattle.ordering.proofs.Passing.{passes_walk, passes_step}
 use Rattle.ordering.proofs.WalkBack.{min_either}
 use Rattle.indexing.specs.Entries.{entry_at}
 use Rattle.indexing.proofs.Entries.{entry_is}
-use Rattle.rings.specs.declared.searches.Closing.{Closing}
 use Rattle.rings.specs.declared.searches.Reached.{Reached}
-use Rattle.rings.specs.Searches.{Lists, Onward, among, State, Arrays, numbers, reached_at, Ahead, Back, Begun, Explored, Explores}
-use Rattle.rings.specs.Searches.{closing, Beats, Better, ClosesBy, Closes, Ready, Told, Distances, Searched}
+use Rattle.rings.specs.Searches.{Lists, Onward, among, State, Arrays, numbers, reached_at, Ahead, Back, Explored, Measured}
+use Rattle.rings.specs.Searches.{Closing, Beats, Better, ClosesBy, Closes, Ready, Told, Distances, Searched}
 use Rattle.rings.proofs.Counting.{ones_set, ones_none}
 use Rattle.rings.proofs.Meeting.{Beyond, state_complete, state_lowest}
 use Rattle.rings.proofs.Left.{among_keeps, among_within}
@@ -68,18 +67,14 @@ module _ {root most : ℕ} {lows queue : List ℕ} (r : Ready root most lows que
       (λ t. get_or-replicate {A = ℕ} max_items x 0 0 (ltb-true x max_items t))
       (λ t. get_or-eq_default (replicate max_items 0) 0 {n = x} (omega (arith, ltb-false x max_items t, length-replicate {A = ℕ} max_items 0)))
 
-  pub begun : Begun most distances₀ (set lows root root) (set queue 0 root)
+  begun : Arrays 1 distances₀ (set lows root root) (set queue 0 root)
   begun =
       record {
-        most_fits = r.most_fits;
-        arrays =
-            record {
-              distances_long = length-set (replicate max_items 0) root 1 ∙ length-replicate {A = ℕ} max_items 0;
-              lows_long = length-set lows root root ∙ r.lows_long;
-              queue_long = length-set queue 0 root ∙ r.queue_long;
-              count = sym (ones_set (replicate max_items 0) root 1 long (cleared root) (λ z. omega (arith, z)) ∙ ap suc (ones_none max_items));
-              fits = omega arith;
-            };
+        distances_long = length-set (replicate max_items 0) root 1 ∙ length-replicate {A = ℕ} max_items 0;
+        lows_long = length-set lows root root ∙ r.lows_long;
+        queue_long = length-set queue 0 root ∙ r.queue_long;
+        count = sym (ones_set (replicate max_items 0) root 1 long (cleared root) (λ z. omega (arith, z)) ∙ ap suc (ones_none max_items));
+        fits = omega arith;
       }
 
   root_met : (F : List Edge) → State F root 0 1 (numbers distances₀) (numbers (set lows root root)) (numbers (set queue 0 root))
@@ -90,18 +85,17 @@ module _ {root most : ℕ} {lows queue : List ℕ} (r : Ready root most lows que
       (get_or-set_same queue 0 root 0 (omega (arith, r.queue_long)))
 
 -- The loop over the groups met.
-pub record Exploring (most : ℕ) (table : Table) (heads links left distances₀ lows₀ queue₀ distances lows queue : List ℕ) (end at : ℕ) : Type 0 where
+pub record Exploring (root most : ℕ) (table : Table) (heads links left distances lows queue : List ℕ) (end at : ℕ) : Type 0 where
   pub most_fits : most ≤ max_items
   pub arrays : Arrays end distances lows queue
-  pub state : (root : ℕ) (E : List Edge) → Lists E table heads links →
-      State (among left E) root 0 1 (numbers distances₀) (numbers lows₀) (numbers queue₀) →
-      State (among left E) root at end (numbers distances) (numbers lows) (numbers queue)
+  pub state : (E : List Edge) → Lists E table heads links → State (among left E) root at end (numbers distances) (numbers lows) (numbers queue)
 
-module _ {most : ℕ} {table : Table} {heads links left distances₀ lows₀ queue₀ : List ℕ} where
-  pub exploring_first : Begun most distances₀ lows₀ queue₀ → Exploring most table heads links left distances₀ lows₀ queue₀ distances₀ lows₀ queue₀ 1 0
-  exploring_first b = record { most_fits = b.most_fits; arrays = b.arrays; state = λ root E l s. s }
+module _ {root most : ℕ} {table : Table} {heads links left : List ℕ} where
+  pub exploring_first : {lows queue : List ℕ} → Ready root most lows queue →
+      Exploring root most table heads links left (set (replicate max_items 0) root 1) (set lows root root) (set queue 0 root) 1 0
+  exploring_first r = record { most_fits = r.most_fits; arrays = begun r; state = λ E l. root_met r (among left E) }
 
-  module _ {distances lows queue : List ℕ} {end at : ℕ} (e : Exploring most table heads links left distances₀ lows₀ queue₀ distances lows queue end at) where
+  module _ {distances lows queue : List ℕ} {end at : ℕ} (e : Exploring root most table heads links left distances lows queue end at) where
     -- The next group of the queue.
     module _ {next : Reached} (read : next ≡ reached_at at distances lows queue) where
       lies_at : next.level ≡ get_or distances (get_or queue at 0) 0
@@ -124,111 +118,48 @@ module _ {most : ℕ} {table : Table} {heads links left distances₀ lows₀ que
             arrays = e.arrays;
           }
 
-    ended : ((root : ℕ) (E : List Edge) → State (among left E) root at end (numbers distances) (numbers lows) (numbers queue) →
-        (i : ℕ) → at ≤ i → i < end → most ≤ get_or distances (get_or queue i 0) 0) →
-        Explores most table heads links left distances₀ lows₀ queue₀ distances lows queue
+    ended : ((E : List Edge) → State (among left E) root at end (numbers distances) (numbers lows) (numbers queue) →
+        (i : ℕ) → at ≤ i → i < end → most ≤ get_or distances (get_or queue i 0) 0) → Measured root most table heads links left distances lows queue
     ended bound =
         record {
           distances_long = e.arrays.distances_long;
           lows_long = e.arrays.lows_long;
           queue_long = e.arrays.queue_long;
-          explored = λ root E l s.
-              let now = e.state root E l s in record { at = at; end = end; state = now; beyond = bound root E now };
+          explored = λ E l. record { at = at; end = end; state = e.state E l; beyond = bound E (e.state E l) };
         }
 
     pub far_enough : at < end → {next : Reached} → next ≡ reached_at at distances lows queue → most ≤ next.level →
-        Explores most table heads links left distances₀ lows₀ queue₀ distances lows queue
-    far_enough ahead read far = ended (λ root E s i low high. omega (arith, far, lies_at read, s.rising at i low high))
+        Measured root most table heads links left distances lows queue
+    far_enough ahead read far = ended (λ E s i low high. omega (arith, far, lies_at read, s.rising at i low high))
 
-    pub nothing_left : end ≤ at → Explores most table heads links left distances₀ lows₀ queue₀ distances lows queue
-    nothing_left done = ended (λ root E s i low high. absurd (omega (arith, done, low, high)))
+    pub nothing_left : end ≤ at → Measured root most table heads links left distances lows queue
+    nothing_left done = ended (λ E s i low high. absurd (omega (arith, done, low, high)))
 
     pub exploring_less : at < end → max_items - (at + 1) < max_items - at
     exploring_less h = omega (arith, h, e.arrays.fits)
 
     pub exploring_more : {distances' lows' queue' : List ℕ} {end' : ℕ} →
         Back at end table heads links left distances lows queue distances' lows' queue' end' →
-        Exploring most table heads links left distances₀ lows₀ queue₀ distances' lows' queue' end' (at + 1)
-    exploring_more b =
-        rw add-one (record { most_fits = e.most_fits; arrays = b.arrays; state = λ root E l s. b.gone root E l (e.state root E l s) })
-
-pub reached_is : (at : ℕ) (distances lows queue : List ℕ) {group level low : ℕ} → group ≡ entry_at queue at → level ≡ entry_at distances group →
-    low ≡ entry_at lows group → ◌≡◌ {A = Reached} (record { group = group; level = level; low = low }) (reached_at at distances lows queue)
-reached_is at distances lows queue g l o =
-    λ i. record { group = g i; level = (l ∙ ap (entry_at distances) g) i; low = (o ∙ ap (entry_at lows) g) i }
-
--- The better of two.
-module _ {best found : Closing} where
-  pub better_none : found.arrows ≡ 0 → Better best found best
-  better_none z = record { one = inl refl; as_best = λ m y b. b; as_found = λ m y b. absurd (b.some_lead z) }
-
-  pub better_first : best.arrows ≡ 0 → Better best found found
-  better_first z = record { one = inr refl; as_best = λ m y b. absurd (b.some_lead z); as_found = λ m y b. b }
-
-  pub better_fewer : ¬ (found.arrows ≡ 0) → found.arrows < best.arrows → Better best found found
-  better_fewer n less =
-      record {
-        one = inr refl;
-        as_best = λ m y b. record { some_lead = n; fewer = omega (arith, less, b.fewer); lower = λ e. absurd (omega (arith, e, less, b.fewer)) };
-        as_found = λ m y b. b;
-      }
-
-  pub better_more : ¬ (best.arrows ≡ 0) → best.arrows < found.arrows → Better best found best
-  better_more n less =
-      record {
-        one = inl refl;
-        as_best = λ m y b. b;
-        as_found = λ m y b. record { some_lead = n; fewer = omega (arith, less, b.fewer); lower = λ e. absurd (omega (arith, e, less, b.fewer)) };
-      }
-
-  pub better_lower : ¬ (best.arrows ≡ 0) → found.arrows ≤ best.arrows → best.arrows ≤ found.arrows → {group : ℕ} →
-      group ≡ min best.group found.group → Better best found (closing group best.arrows)
-  better_lower n up down {group} e =
-      let same : best.arrows ≡ found.arrows = omega (arith, up, down) in
-      record {
-        one = ⊎_elim
-            (λ m. inl (λ i. closing ((e ∙ m) i) best.arrows))
-            (λ m. inr (λ i. closing ((e ∙ m) i) (same i)))
-            (min_either best.group found.group);
-        as_best = λ m y b. record {
-          some_lead = n;
-          fewer = b.fewer;
-          lower = λ f. omega (arith, e, min-le_left best.group found.group, b.lower f);
-        };
-        as_found = λ m y b. record {
-          some_lead = n;
-          fewer = omega (arith, same, b.fewer);
-          lower = λ f. omega (arith, e, min-le_right best.group found.group, b.lower (sym same ∙ f));
-        };
-      }
+        Exploring root most table heads links left distances' lows' queue' end' (at + 1)
+    exploring_more b = rw add-one (record { most_fits = e.most_fits; arrays = b.arrays; state = λ E l. b.gone root E l (e.state E l) })
 
 -- The loop over the arrows from the root: of those up to here the best.
-pub record Closing-of (root most : ℕ) (table : Table) (onward left distances lows : List ℕ) (c : Closing) (member : ℕ) : Type 0 where
+pub record Closing-of (root most : ℕ) (table : Table) (onward left distances lows : List ℕ) (c : Closing) (others : List ℕ) : Type 0 where
   pub few : c.arrows ≤ most
   pub low : c.group ≤ root
   pub one : ¬ (c.arrows ≡ 0) → (k : ℕ) × (k ∈ members onward (entry_at left root)) × (c.arrows ≡ entry_at distances (target_at table k)) ×
       (c.group ≡ min root (entry_at lows (target_at table k)))
-  pub within : (k : ℕ) → k ∈ members onward member → k ∈ members onward (entry_at left root)
-  pub seen : (k : ℕ) → k ∈ members onward (entry_at left root) → (k ∈ members onward member) ⊎
+  pub within : (k : ℕ) → k ∈ others → k ∈ members onward (entry_at left root)
+  pub seen : (k : ℕ) → k ∈ members onward (entry_at left root) → (k ∈ others) ⊎
       (¬ (entry_at distances (target_at table k) ≡ 0) → entry_at distances (target_at table k) ≤ most →
       Beats c (entry_at distances (target_at table k)) (min root (entry_at lows (target_at table k))))
 
 module _ {root most : ℕ} {table : Table} {onward left distances lows : List ℕ} where
-  pub closing_first : {member : ℕ} → member ≡ entry_at left root → Closing-of root most table onward left distances lows (closing root 0) member
-  closing_first e =
-      record {
-        few = omega arith;
-        low = omega arith;
-        one = λ n. absurd (n refl);
-        within = λ k m. subst (λ (x : ℕ). k ∈ members onward x) e m;
-        seen = λ k m. inl (subst (λ (x : ℕ). k ∈ members onward x) (sym e) m);
-      }
-
-  module _ {c : Closing} {member : ℕ} (o : Closing-of root most table onward left distances lows c member) where
-    pub closing_more : 0 < member → {to next : ℕ} → to ≡ target_at table (member - 1) → next ≡ older_in onward member → {found : Closing} →
+  module _ {c : Closing} {others : List ℕ} (o : Closing-of root most table onward left distances lows c others) where
+    pub closing_more : {edge : ℕ} {later : List ℕ} → others ≡ edge ∷ later → {to : ℕ} → to ≡ target_at table edge → {found : Closing} →
         ClosesBy root to most distances lows found → {c' : Closing} → Better c found c' →
-        Closing-of root most table onward left distances lows c' next
-    closing_more more {to} {next} read on {found} by {c'} better =
+        Closing-of root most table onward left distances lows c' later
+    closing_more {edge} {later} first {to} read {found} by {c'} better =
         record {
           few = ⊎_elim
               (λ e. omega (arith, ap (λ (d : Closing). d.arrows) e, o.few))
@@ -236,25 +167,22 @@ module _ {root most : ℕ} {table : Table} {onward left distances lows : List �
               better.one;
           low = ⊎_elim
               (λ e. omega (arith, ap (λ (d : Closing). d.group) e, o.low))
-              (λ e. omega (arith, ap (λ (d : Closing). d.group) e, by.group, min-le_left root (entry_at lows to)))
+              (λ e. omega (arith, ap (λ (d : Closing). d.group) e, by.low))
               better.one;
           one = λ n. ⊎_elim
               (λ e. subst Told-by (sym e) (o.one (λ z. n (ap (λ (d : Closing). d.arrows) e ∙ z))))
               (λ e. subst Told-by (sym e) (own (λ z. n (ap (λ (d : Closing). d.arrows) e ∙ z))))
               better.one;
-          within = λ k m. o.within k (subst (λ (z : List ℕ). k ∈ z) (sym first) (there (subst (λ (x : ℕ). k ∈ members onward x) on m)));
+          within = λ k m. o.within k (subst (λ (z : List ℕ). k ∈ z) (sym first) (there m));
           seen = λ k m. ⊎_elim
               (λ i. ⊎_elim
               (λ e. inr (subst (λ (j : ℕ). Beaten (target_at table j)) (sym e) (subst Beaten read own_beaten)))
-              (λ j. inl (subst (λ (x : ℕ). k ∈ members onward x) (sym on) j))
+              (λ j. inl j)
               (Memᴰ.cases_cons (subst (λ (z : List ℕ). k ∈ z) first i)))
               (λ b. inr (λ n near. better.as_best _ _ (b n near)))
               (o.seen k m);
         }
       where
-        first : members onward member ≡ (member - 1) ∷ members onward (older_in onward member)
-        first = members_first onward member more
-
         Told-by : Closing → Type 0
         Told-by d = (k : ℕ) × (k ∈ members onward (entry_at left root)) × (d.arrows ≡ entry_at distances (target_at table k)) ×
             (d.group ≡ min root (entry_at lows (target_at table k)))
@@ -277,26 +205,26 @@ module _ {root most : ℕ} {table : Table} {onward left distances lows : List �
 
         own : ¬ (found.arrows ≡ 0) → Told-by found
         own n = (
-          member - 1,
-          o.within (member - 1) (subst (λ (z : List ℕ). member - 1 ∈ z) (sym first) (here refl)),
+          edge,
+          o.within edge (subst (λ (z : List ℕ). edge ∈ z) (sym first) (here refl)),
           near n ∙ ap (entry_at distances) read,
-          by.group ∙ ap (λ h. min root (entry_at lows h)) read,
+          by.group n ∙ ap (λ h. min root (entry_at lows h)) read,
         )
 
         own_beaten : Beaten to
         own_beaten n few =
             let is = by.near few in
-            better.as_found _ _ (record { some_lead = λ z. n (sym is ∙ z); fewer = omega (arith, is); lower = λ e. omega (arith, by.group) })
+            let some_lead : ¬ (found.arrows ≡ 0) = λ z. n (sym is ∙ z) in
+            better.as_found _ _ (record { some_lead = some_lead; fewer = omega (arith, is); lower = λ e. omega (arith, by.group some_lead) })
 
-    pub closing_all : member ≤ 0 → Closes root most table onward left distances lows c
+    pub closing_all : others ≡ [] → Closes root most table onward left distances lows c
     closing_all done =
-        let z : member ≡ 0 = omega (arith, done) in
         record {
           few = o.few;
           low = o.low;
           one = o.one;
           beats = λ k m. ⊎_elim
-              (λ i. absurd (Memᴰ.not-nil (subst (λ (s : List ℕ). k ∈ s) (ap (members onward) z ∙ no_members onward) i)))
+              (λ i. absurd (Memᴰ.not-nil (subst (λ (s : List ℕ). k ∈ s) done i)))
               (λ b. b)
               (o.seen k m);
         }
@@ -389,30 +317,24 @@ module _ (root most : ℕ) (table : Table) (onward left : List ℕ) (E : List Ed
           let lies : D h ≡ i + j + 1 = omega (arith, b.fewer, le, whole) in
           omega (arith, b.lower (omega (arith, lies, whole)), lowest_on i j h z (omega (arith, whole, k.few)) lies w v)
 
-  pub lying : ¬ (c.arrows ≡ 0) → Distances F root c.arrows D
-  lying n =
-      record {
-        first = x.state.first;
-        sound = λ y met. passes_walk (x.state.way y met);
-        complete = λ m y few w. complete m y (omega (arith, few, k.few)) w;
-      }
-
-pub searched : {root most : ℕ} {table : Table} {heads links onward left lows queue : List ℕ} → Ready root most lows queue →
-    {distances' lows' queue' : List ℕ} →
-    Explores most table heads links left (set (replicate max_items 0) root 1) (set lows root root) (set queue 0 root) distances' lows' queue' →
-    {c : Closing} → Closes root most table onward left distances' lows' c →
-    Searched root most table heads links onward left distances' lows' queue' c
-searched {root} {most} {table} {onward = onward} {left = left} r {distances'} {lows'} {queue'} e {c} k =
+-- Of the groups that lie nearer the distances are known.
+pub distances_lie : {F : List Edge} {root most : ℕ} {D L Q : ℕ → ℕ} → Explored F root most D L Q → Distances F root most D
+distances_lie {F} {root} {most} {D} {L} {Q} x =
     record {
-      distances_long = e.distances_long;
+      first = x.state.first;
+      sound = λ y met. passes_walk (x.state.way y met);
+      complete = λ m y few. state_complete F root x.at x.end D L Q x.state m y (λ i low b. omega (arith, few, x.beyond i low b));
+    }
+
+pub searched : {root most : ℕ} {table : Table} {heads links onward left distances lows queue : List ℕ} →
+    Measured root most table heads links left distances lows queue → {c : Closing} → Closes root most table onward left distances lows c →
+    Searched root most table heads links onward left lows queue c
+searched {root} {most} {table} {onward = onward} {left = left} {distances} {lows} {queue} e {c} k =
+    record {
       lows_long = e.lows_long;
       queue_long = e.queue_long;
       few = k.few;
       low = k.low;
       told = λ E l o.
-          told root most table onward left E o distances' lows' queue' e.distances_long e.lows_long
-          (e.explored root E l (root_met r (among left E))) c k;
-      far = λ n E l o.
-          lying root most table onward left E o distances' lows' queue' e.distances_long e.lows_long
-          (e.explored root E l (root_met r (among left E))) c k n;
+          told root most table onward left E o distances lows queue e.distances_long e.lows_long (e.explored E l) c k;
     }

@@ -1,9 +1,10 @@
 -- To follow the lowest next groups from the root is to go the first walk. A group from which the arrows that are left lead to the root, behind an arrow
 -- of the way, lies just so far: were it nearer, a shorter walk would close. So the lowest next group by distance is the lowest by walks.
+use Rattle.std.specs.Prelude.{Option, Some, None}
+use Rattle.model.proofs.Options.{some-injective}
 use Prim.Native.Nat.{ℕ, zero, suc, ◌+◌, ◌-◌, ◌≤◌, ◌<◌}
 use mathlib.Core.Path.{◌≡◌, refl, sym, ap, ◌∙◌, subst}
 use mathlib.Core.List.{List, [], ◌∷◌}
-use mathlib.Core.Option.{Option, some, none, some-injective}
 use native.Mathlib.Omega.{arith}
 use lib.Dec.{eqb, ltb}
 use borrow.Author.Tests.{eqb-true, eqb-false, ltb-true, ltb-false}
@@ -20,8 +21,8 @@ use Rattle.rings.specs.Nexts.{Nexts, followed}
 
 nothing_on : (o : Option ℕ) → onward (λ k. []) o ≡ []
 unfolding onward
-nothing_on none = refl
-nothing_on (some h) = refl
+nothing_on None = refl
+nothing_on (Some h) = refl
 
 module _ (E : List Edge) (below : (x h : ℕ) → x ⟶ h ∈ E → (x < max_items) × (h < max_items)) (root n : ℕ)
     (round : Walk E (suc n) root root) (least : (m : ℕ) → 1 ≤ m → Walk E m root root → suc n ≤ m)
@@ -59,10 +60,10 @@ module _ (E : List Edge) (below : (x h : ℕ) → x ⟶ h ∈ E → (x < max_ite
       absurd (omega (arith, near, p, d, ltb-true (D h) (m + 2) u)))
       (λ u. omega (arith, o, le, ltb-false (D h) (m + 2) u)))
 
-  next_is : (m x : ℕ) → suc m ≤ n → D' x ≡ suc m + 2 → (lowest_next x (coming_to (suc m) root E) E ≡ some (N x)) × (D' (N x) ≡ m + 2)
+  next_is : (m x : ℕ) → suc m ≤ n → D' x ≡ suc m + 2 → (lowest_next x (coming_to (suc m) root E) E ≡ Some (N x)) × (D' (N x) ≡ m + 2)
   next_is m x few d = found (way (suc m) x d)
     where
-      found : Walk E (suc (suc m)) x root → (lowest_next x (coming_to (suc m) root E) E ≡ some (N x)) × (D' (N x) ≡ m + 2)
+      found : Walk E (suc (suc m)) x root → (lowest_next x (coming_to (suc m) root E) E ≡ Some (N x)) × (D' (N x) ≡ m + 2)
       found (step {h = h} a w) =
           let (low, is, le) = next_lowest x (coming_to (suc m) root E) E a (walk_coming E w) in
           let (arrow, in_layer) = next_sound x (coming_to (suc m) root E) E low is in
@@ -73,7 +74,7 @@ module _ (E : List Edge) (below : (x h : ℕ) → x ⟶ h ∈ E → (x < max_ite
           let (low', is', le') = next_lowest x (coming_to (suc m) root E) E next (walk_coming E (way m (N x) lies')) in
           let one : low ≡ low' = some-injective _ _ (sym is ∙ is') in
           let same : low ≡ N x = omega (arith, under, le', one) in
-          (is ∙ ap some same, lies')
+          (is ∙ ap Some same, lies')
 
   follows : (m x : ℕ) → m ≤ n → D' x ≡ m + 2 → followed (suc m) x N ≡ first_walk (suc m) x root E
   unfolding followed first_walk onward

@@ -1,7 +1,7 @@
 -- The arrows are gone through one by one: an entry is the lowest end of those from its group that lie nearer.
-use Prim.Native.Nat.{ℕ, ◌+◌, ◌-◌, ◌≤◌, ◌<◌, min}
+use Prim.Native.Nat.{ℕ, ◌+◌, ◌≤◌, ◌<◌, min}
 use mathlib.Core.Path.{◌≡◌, sym, ap, ◌∙◌, subst}
-use mathlib.Core.Bool.{Bool, true, false, false≢true, true≢false}
+use mathlib.Core.Bool.{Bool, true, false, true≢false}
 use mathlib.Core.List.{List}
 use mathlib.Core.Logic.{◌⊎◌, inl, inr, ⊎_elim}
 use native.Mathlib.Nat.{min-le_left, min-le_right}
@@ -159,18 +159,3 @@ module _ (groups : ℕ) (waiting : List ℕ) (table : Table) (distances : List �
               g.lowest x h (record { k = k; before = omega (arith, b, all); counting = c; starts = p; ends = q; nearer = near }),
             );
       }
-
--- What the test for a nearer group tells.
-module _ (distances : List ℕ) {from to near : ℕ} where
-  pub nearer_unmet : near ≡ entry_at distances to → near ≡ 0 → TellsNearer distances from to false
-  nearer_unmet e z = record { yes = λ t. absurd (false≢true t); no_nearer = λ f n. n.0 (sym e ∙ z) }
-
-  pub nearer_far : {far : ℕ} → far ≡ entry_at distances from → near ≡ entry_at distances to → far ≤ near → TellsNearer distances from to false
-  nearer_far d e le = record { yes = λ t. absurd (false≢true t); no_nearer = λ f n. omega (arith, n.1, d, e, le) }
-
-  pub nearer_yes : {far : ℕ} → far ≡ entry_at distances from → near ≡ entry_at distances to → ¬ (near ≡ 0) → near < far → far - near ≡ 1 →
-      TellsNearer distances from to true
-  nearer_yes d e n lt one = record { yes = λ t. ((λ z. n (e ∙ z)), omega (arith, d, e, lt, one)); no_nearer = λ f. absurd (true≢false f) }
-
-  pub nearer_no : {far : ℕ} → far ≡ entry_at distances from → near ≡ entry_at distances to → near < far → ¬ (far - near ≡ 1) → TellsNearer distances from to false
-  nearer_no d e lt other = record { yes = λ t. absurd (false≢true t); no_nearer = λ f n. other (omega (arith, n.1, d, e, lt)) }

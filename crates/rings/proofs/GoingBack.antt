@@ -1,9 +1,9 @@
 -- The arrows into one of the groups met are gone back one by one. Each that comes from a group that is left has its start met then, at most one farther
 -- than the group.
-use Prim.Native.Nat.{ℕ, suc, ◌+◌, ◌-◌, ◌≤◌, ◌<◌, min}
+use Prim.Native.Nat.{ℕ, suc, ◌+◌, ◌≤◌, ◌<◌, min}
 use mathlib.Core.Path.{◌≡◌, refl, sym, ap, ◌∙◌, subst}
 use mathlib.Core.List.Memᴰ
-use mathlib.Core.List.{List, ◌∷◌}
+use mathlib.Core.List.{List, [], ◌∷◌}
 use mathlib.Core.Logic.{◌⊎◌, inl, inr, ⊎_elim}
 use native.Mathlib.Nat.{min-le_right}
 use native.Mathlib.Numerals.{add-one}
@@ -19,7 +19,7 @@ use Rattle.model.proofs.Laws.{decided}
 use Rattle.model.proofs.Lists.{here, there}
 use Rattle.memory.specs.Tables.{Table}
 use Rattle.chains.specs.Chains.{members, older_in}
-use Rattle.chains.proofs.Chains.{no_members, members_first, older_lower}
+use Rattle.chains.proofs.Chains.{older_lower}
 use Rattle.graph.specs.Edges.{source_at}
 use Rattle.indexing.specs.Entries.{entry_at}
 use Rattle.rings.specs.declared.searches.Reached.{Reached}
@@ -31,19 +31,19 @@ use Rattle.rings.proofs.Meeting.{Kept, fresh_kept, state_fresh, again_kept, stat
 -- What meeting a group answers, by what was read.
 module _ {from distance low end : ℕ} {distances lows queue : List ℕ} where
   module _ (inside : from < max_items) {far : ℕ} (read : far ≡ get_or distances from 0) where
-    pub met_first : far ≤ 0 → end < max_items → {least : ℕ} → least ≡ min from low →
+    pub met_first : far ≡ 0 → end < max_items → {least : ℕ} → least ≡ min from low →
         Meets from distance low distances lows queue end (set distances from distance) (set lows from least) (set queue end from) (end + 1)
-    met_first new room e = fresh inside room (omega (arith, read, new)) refl (ap (set lows from) e) refl refl
+    met_first new room e = fresh inside room (sym read ∙ new) refl (ap (set lows from) e) refl refl
 
-    pub met_full : far ≤ 0 → max_items ≤ end → Meets from distance low distances lows queue end distances lows queue end
-    met_full new full = known (λ i room. absurd (omega (arith, full, room))) (λ i n. absurd (n (omega (arith, read, new)))) refl refl refl refl
+    pub met_full : far ≡ 0 → max_items ≤ end → Meets from distance low distances lows queue end distances lows queue end
+    met_full new full = known (λ i room. absurd (omega (arith, full, room))) (λ i n. absurd (n (sym read ∙ new))) refl refl refl refl
 
-    pub met_as_far : 0 < far → far ≡ distance → {least : ℕ} → least ≡ min (get_or lows from 0) low →
+    pub met_as_far : ¬ (far ≡ 0) → far ≡ distance → {least : ℕ} → least ≡ min (get_or lows from 0) low →
         Meets from distance low distances lows queue end distances (set lows from least) queue end
-    met_as_far n same e = again inside (λ z. omega (arith, read, n, z)) (sym read ∙ same) refl (ap (set lows from) e) refl refl
+    met_as_far n same e = again inside (λ z. n (read ∙ z)) (sym read ∙ same) refl (ap (set lows from) e) refl refl
 
-    pub met_nearer : 0 < far → ¬ (far ≡ distance) → Meets from distance low distances lows queue end distances lows queue end
-    met_nearer n other = known (λ i room z. omega (arith, read, n, z)) (λ i k z. other (read ∙ z)) refl refl refl refl
+    pub met_nearer : ¬ (far ≡ 0) → ¬ (far ≡ distance) → Meets from distance low distances lows queue end distances lows queue end
+    met_nearer n other = known (λ i room z. n (read ∙ z)) (λ i k z. other (read ∙ z)) refl refl refl refl
 
   pub met_outside : max_items ≤ from → Meets from distance low distances lows queue end distances lows queue end
   met_outside out = known (λ i. absurd (omega (arith, out, i))) (λ i. absurd (omega (arith, out, i))) refl refl refl refl
@@ -90,19 +90,19 @@ module _ (at end₀ : ℕ) (table : Table) (heads links left distances₀ lows�
     pub near : get_or distances x 0 ≤ level + 1
     pub lower : get_or distances x 0 ≡ level + 1 → get_or lows x 0 ≤ low
 
-  pub record Seen (root : ℕ) (E : List Edge) (distances lows queue : List ℕ) (end member : ℕ) : Type 0 where
+  pub record Seen (root : ℕ) (E : List Edge) (distances lows queue : List ℕ) (end : ℕ) (others : List ℕ) : Type 0 where
     pub state : State (among left E) root at end (numbers distances) (numbers lows) (numbers queue)
     pub kept : Kept at (numbers distances₀) (numbers lows₀) (numbers queue₀) (numbers distances) (numbers lows) (numbers queue)
-    pub rest : (k : ℕ) → k ∈ members links member → k ∈ members links (entry_at heads group)
+    pub rest : (k : ℕ) → k ∈ others → k ∈ members links (entry_at heads group)
     pub seen : (k : ℕ) → k ∈ members links (entry_at heads group) →
-        (k ∈ members links member) ⊎ (¬ (entry_at left (source_at table k) ≡ 0) → Done distances lows (source_at table k))
+        (k ∈ others) ⊎ (¬ (entry_at left (source_at table k) ≡ 0) → Done distances lows (source_at table k))
 
-  pub record Going (distances lows queue : List ℕ) (end member : ℕ) : Type 0 where
+  pub record Going (distances lows queue : List ℕ) (end : ℕ) (others : List ℕ) : Type 0 where
     pub arrays : Arrays end distances lows queue
     pub ahead : at < end
-    pub over : (root : ℕ) (E : List Edge) → Stood root E → Seen root E distances lows queue end member
+    pub over : (root : ℕ) (E : List Edge) → Stood root E → Seen root E distances lows queue end others
 
-  module _ {distances lows queue : List ℕ} {end member : ℕ} (g : Going distances lows queue end member) where
+  module _ {distances lows queue : List ℕ} {end : ℕ} {others : List ℕ} (g : Going distances lows queue end others) where
     at_group : (root : ℕ) (E : List Edge) (o : Stood root E) → get_or queue at 0 ≡ group
     at_group root E o = (g.over root E o).kept.place at (omega arith)
 
@@ -113,14 +113,11 @@ module _ (at end₀ : ℕ) (table : Table) (heads links left distances₀ lows�
     low_is root E o = ap (numbers lows) ((g.over root E o).kept.place at (omega arith)) ∙ (g.over root E o).kept.low at (omega arith)
 
     -- The next arrow of the list.
-    module _ (more : 0 < member) {from : ℕ} (read : from ≡ source_at table (member - 1)) where
-      first : members links member ≡ (member - 1) ∷ members links (older_in links member)
-      first = members_first links member more
-
+    module _ {edge : ℕ} {later : List ℕ} (first : others ≡ edge ∷ later) {from : ℕ} (read : from ≡ source_at table edge) where
       arrow : (root : ℕ) (E : List Edge) (o : Stood root E) → from ⟶ group ∈ E
       arrow root E o =
-          let in_list : member - 1 ∈ members links member = subst (λ (z : List ℕ). member - 1 ∈ z) (sym first) (here refl) in
-          subst (λ (x : ℕ). x ⟶ group ∈ E) (sym read) (o.0.sound group (member - 1) ((g.over root E o).rest (member - 1) in_list))
+          let in_list : edge ∈ others = subst (λ (z : List ℕ). edge ∈ z) (sym first) (here refl) in
+          subst (λ (x : ℕ). x ⟶ group ∈ E) (sym read) (o.0.sound group edge ((g.over root E o).rest edge in_list))
 
       arrow_left : (root : ℕ) (E : List Edge) (o : Stood root E) → ¬ (entry_at left from ≡ 0) → from ⟶ get_or queue at 0 ∈ among left E
       arrow_left root E o n = subst (λ (x : ℕ). from ⟶ x ∈ among left E) (sym (at_group root E o)) (among_keeps left E (arrow root E o) n)
@@ -130,7 +127,7 @@ module _ (at end₀ : ℕ) (table : Table) (heads links left distances₀ lows�
           State (among left E) root at end' (numbers distances') (numbers lows') (numbers queue') →
           Kept at (numbers distances) (numbers lows) (numbers queue) (numbers distances') (numbers lows') (numbers queue') →
           ((x : ℕ) → Done distances lows x → Done distances' lows' x) → (¬ (entry_at left from ≡ 0) → Done distances' lows' from) →
-          Seen root E distances' lows' queue' end' (older_in links member)
+          Seen root E distances' lows' queue' end' later
       on {distances'} {lows'} root E o state kept keeps own =
           record {
             state = state;
@@ -146,14 +143,13 @@ module _ (at end₀ : ℕ) (table : Table) (heads links left distances₀ lows�
           }
 
       -- It comes from a group that is taken out.
-      pub going_past : entry_at left from ≡ 0 → {next : ℕ} → next ≡ older_in links member → Going distances lows queue end next
-      going_past gone {next} e =
-          rw e
-          (record {
+      pub going_past : entry_at left from ≡ 0 → Going distances lows queue end later
+      going_past gone =
+          record {
             arrays = g.arrays;
             ahead = g.ahead;
             over = λ root E o. on root E o (g.over root E o).state kept_same (λ x d. d) (λ n. absurd (n gone));
-          })
+          }
 
       -- It comes from a group that is left.
       module _ (here_left : ¬ (entry_at left from ≡ 0)) where
@@ -226,7 +222,7 @@ module _ (at end₀ : ℕ) (table : Table) (heads links left distances₀ lows�
                 lower = λ z. omega (arith, low_own, min-le_right from low);
               }
 
-          met_fresh : Going distances_after lows_after queue_after (suc end) (older_in links member)
+          met_fresh : Going distances_after lows_after queue_after (suc end) later
           met_fresh =
               record {
                 arrays = fresh_arrays;
@@ -271,7 +267,7 @@ module _ (at end₀ : ℕ) (table : Table) (heads links left distances₀ lows�
                     (λ t. omega (arith, lowered_old x (eqb-false x from t), done.lower z));
               }
 
-          met_again : Going distances lows_lowered queue end (older_in links member)
+          met_again : Going distances lows_lowered queue end later
           met_again =
               record {
                 arrays =
@@ -295,7 +291,7 @@ module _ (at end₀ : ℕ) (table : Table) (heads links left distances₀ lows�
         -- It was met before, and lies nearer: there is room for each group, and no two groups that are left differ by more than one.
         met_known : (from < max_items → end < max_items → ¬ (get_or distances from 0 ≡ 0)) →
             (from < max_items → ¬ (get_or distances from 0 ≡ 0) → ¬ (get_or distances from 0 ≡ level + 1)) →
-            Going distances lows queue end (older_in links member)
+            Going distances lows queue end later
         met_known old nearer =
             record {
               arrays = g.arrays;
@@ -323,13 +319,13 @@ module _ (at end₀ : ℕ) (table : Table) (heads links left distances₀ lows�
                 }
 
         pub going_met : {distances' lows' queue' : List ℕ} {end' : ℕ} → Meets from (level + 1) low distances lows queue end distances' lows' queue' end' →
-            {next : ℕ} → next ≡ older_in links member → Going distances' lows' queue' end' next
-        going_met (fresh inside room new d o q n) e = rw (d, o, q, n ∙ add-one end, e) (met_fresh inside room new)
-        going_met (again inside met same d o q n) e = rw (d, o, q, n, e) (met_again inside same)
-        going_met (known old nearer d o q n) e = rw (d, o, q, n, e) (met_known old nearer)
+            Going distances' lows' queue' end' later
+        going_met (fresh inside room new d o q n) = rw (d, o, q, n ∙ add-one end) (met_fresh inside room new)
+        going_met (again inside met same d o q n) = rw (d, o, q, n) (met_again inside same)
+        going_met (known old nearer d o q n) = rw (d, o, q, n) (met_known old nearer)
 
     -- No arrow is left.
-    pub going_done : member ≤ 0 → Back at end₀ table heads links left distances₀ lows₀ queue₀ distances lows queue end
+    pub going_done : others ≡ [] → Back at end₀ table heads links left distances₀ lows₀ queue₀ distances lows queue end
     going_done done =
         record {
           arrays = g.arrays;
@@ -346,8 +342,7 @@ module _ (at end₀ : ℕ) (table : Table) (heads links left distances₀ lows�
             let (plain, n) = among_within left E a in
             let (k, i, source) = o.0.complete x group plain in
             ⊎_elim
-            (λ m. let z : member ≡ 0 = omega (arith, done) in
-            absurd (Memᴰ.not-nil (subst (λ (s : List ℕ). k ∈ s) (ap (members links) z ∙ no_members links) m)))
+            (λ m. absurd (Memᴰ.not-nil (subst (λ (s : List ℕ). k ∈ s) done m)))
             (λ d. subst (Done distances lows) source (d (λ z. n (ap (entry_at left) (sym source) ∙ z))))
             ((g.over root E o).seen k i)
 
@@ -357,17 +352,17 @@ back_less links {member} e more = omega (arith, e, older_lower links member more
 
 -- The loop over the arrows, from what the search stood at.
 pub record Going-back (distance lowest at end₀ : ℕ) (table : Table) (heads links left distances₀ lows₀ queue₀ distances lows queue : List ℕ)
-    (end member : ℕ) : Type 0 where
+    (end : ℕ) (others : List ℕ) : Type 0 where
   pub far : distance ≡ get_or distances₀ (get_or queue₀ at 0) 0 + 1
   pub low : lowest ≡ get_or lows₀ (get_or queue₀ at 0) 0
-  pub going : Going at end₀ table heads links left distances₀ lows₀ queue₀ distances lows queue end member
+  pub going : Going at end₀ table heads links left distances₀ lows₀ queue₀ distances lows queue end others
 
 module _ {distance lowest at end₀ : ℕ} {table : Table} {heads links left distances₀ lows₀ queue₀ : List ℕ} where
-  pub back_begins : {member : ℕ} {next : Reached} → Ahead at next end₀ distances₀ lows₀ queue₀ → distance ≡ next.level + 1 → lowest ≡ next.low →
-      member ≡ entry_at heads next.group →
-      Going-back distance lowest at end₀ table heads links left distances₀ lows₀ queue₀ distances₀ lows₀ queue₀ end₀ member
-  back_begins {member = member} a d o m =
-      let first : member ≡ entry_at heads (get_or queue₀ at 0) = m ∙ ap (entry_at heads) (sym a.here_is) in
+  pub back_begins : {others : List ℕ} {next : Reached} → Ahead at next end₀ distances₀ lows₀ queue₀ → distance ≡ next.level + 1 → lowest ≡ next.low →
+      others ≡ members links (entry_at heads next.group) →
+      Going-back distance lowest at end₀ table heads links left distances₀ lows₀ queue₀ distances₀ lows₀ queue₀ end₀ others
+  back_begins {others = others} a d o m =
+      let first : others ≡ members links (entry_at heads (get_or queue₀ at 0)) = m ∙ ap (λ g. members links (entry_at heads g)) (sym a.here_is) in
       record {
         far = d ∙ ap (λ k. k + 1) a.far;
         low = o ∙ a.lowest;
@@ -379,33 +374,32 @@ module _ {distance lowest at end₀ : ℕ} {table : Table} {heads links left dis
                   record {
                     state = s.1;
                     kept = kept_same;
-                    rest = λ k i. subst (λ (x : ℕ). k ∈ members links x) first i;
-                    seen = λ k i. inl (subst (λ (x : ℕ). k ∈ members links x) (sym first) i);
+                    rest = λ k i. subst (λ (z : List ℕ). k ∈ z) first i;
+                    seen = λ k i. inl (subst (λ (z : List ℕ). k ∈ z) (sym first) i);
                   };
             };
       }
 
-  module _ {end member : ℕ} {distances lows queue : List ℕ}
-      (b : Going-back distance lowest at end₀ table heads links left distances₀ lows₀ queue₀ distances lows queue end member) where
-    pub back_visit : 0 < member → {from next : ℕ} → from ≡ source_at table (member - 1) → next ≡ older_in links member →
+  module _ {end : ℕ} {others distances lows queue : List ℕ}
+      (b : Going-back distance lowest at end₀ table heads links left distances₀ lows₀ queue₀ distances lows queue end others) where
+    pub back_visit : {edge : ℕ} {later : List ℕ} → others ≡ edge ∷ later → {from : ℕ} → from ≡ source_at table edge →
         {distances' lows' queue' : List ℕ} {end' : ℕ} → Visits from distance lowest left distances lows queue end distances' lows' queue' end' →
-        Going-back distance lowest at end₀ table heads links left distances₀ lows₀ queue₀ distances' lows' queue' end' next
-    back_visit more read on (passed gone) =
+        Going-back distance lowest at end₀ table heads links left distances₀ lows₀ queue₀ distances' lows' queue' end' later
+    back_visit first read (passed gone) =
         record {
           far = b.far;
           low = b.low;
-          going = going_past at end₀ table heads links left distances₀ lows₀ queue₀ b.going more read gone on;
+          going = going_past at end₀ table heads links left distances₀ lows₀ queue₀ b.going first read gone;
         }
-    back_visit more {from} read on {distances'} {lows'} {queue'} {end'} (visited here_left meets) =
+    back_visit first {from} read {distances'} {lows'} {queue'} {end'} (visited here_left meets) =
         record {
           far = b.far;
           low = b.low;
           going =
-              going_met at end₀ table heads links left distances₀ lows₀ queue₀ b.going more read here_left
+              going_met at end₀ table heads links left distances₀ lows₀ queue₀ b.going first read here_left
               (subst (λ (k : ℕ). Meets from k (get_or lows₀ (get_or queue₀ at 0) 0) distances lows queue end distances' lows' queue' end') b.far
-              (subst (λ (k : ℕ). Meets from distance k distances lows queue end distances' lows' queue' end') b.low meets))
-              on;
+              (subst (λ (k : ℕ). Meets from distance k distances lows queue end distances' lows' queue' end') b.low meets));
         }
 
-    pub back_done : member ≤ 0 → Back at end₀ table heads links left distances₀ lows₀ queue₀ distances lows queue end
+    pub back_done : others ≡ [] → Back at end₀ table heads links left distances₀ lows₀ queue₀ distances lows queue end
     back_done = going_done at end₀ table heads links left distances₀ lows₀ queue₀ b.going

@@ -2,9 +2,9 @@
 -- at before it is taken out. At the end none is left: a group is taken out, or every arrow into it rises, and along rising arrows no way leads back.
 use Prim.Native.Nat.{ℕ, ◌-◌, ◌≤◌, ◌<◌}
 use mathlib.Core.Path.{◌≡◌, refl, sym, ap, ◌∙◌, subst}
-use mathlib.Core.Bool.{Bool, true, false, true≢false}
+use mathlib.Core.Bool.{Bool, false}
 use mathlib.Core.List.Memᴰ
-use mathlib.Core.List.{List}
+use mathlib.Core.List.{List, []}
 use mathlib.Core.Logic.{◌⊎◌, inl, inr, ⊎_elim}
 use native.Mathlib.Omega.{arith}
 use lib.Dec.{eqb, leb}
@@ -15,54 +15,32 @@ use Rattle.model.specs.HappensBefore.{Edge, ◌⟶◌}
 use Rattle.model.specs.Lists.{◌∈◌}
 use Rattle.model.proofs.Laws.{decided}
 use Rattle.memory.specs.Tables.{Table}
-use Rattle.chains.specs.Chains.{members, older_in}
-use Rattle.chains.proofs.Chains.{no_members, members_first}
+use Rattle.chains.specs.Chains.{members}
 use Rattle.graph.specs.Edges.{source_at}
 use Rattle.ordering.specs.Walks.{Walk, Passes}
 use Rattle.ordering.proofs.Passing.{passes_walk, turned, walk_more, rising_open}
 use Rattle.indexing.specs.Entries.{entry_at}
-use Rattle.rings.specs.declared.searches.Closing.{Closing}
-use Rattle.rings.specs.Searches.{Lists, Onward, Indexed, among, Beats, Better, Ready, Told, Searched}
+use Rattle.rings.specs.Searches.{Closing, Lists, Onward, Indexed, among, Beats, Better, Ready, Told, Searched}
 use Rattle.rings.specs.Removing.{Removable, TakenOut}
 use Rattle.rings.specs.Roots.{Entered, limit_of, Grown, Rooted, Chosen}
 use Rattle.rings.proofs.Left.{among_keeps, among_within}
 
 -- The arrows of a list that were looked at come from below.
-pub record Looked (root : ℕ) (table : Table) (heads links : List ℕ) (member : ℕ) : Type 0 where
-  pub seen : (k : ℕ) → k ∈ members links (entry_at heads root) → (k ∈ members links member) ⊎ (source_at table k < root)
+pub record Looked (root : ℕ) (table : Table) (heads links others : List ℕ) : Type 0 where
+  pub seen : (k : ℕ) → k ∈ members links (entry_at heads root) → (k ∈ others) ⊎ (source_at table k < root)
 
 module _ {root : ℕ} {table : Table} {heads links : List ℕ} where
-  pub looked_begins : {member : ℕ} → member ≡ entry_at heads root → Looked root table heads links member
-  looked_begins e = record { seen = λ k m. inl (subst (λ (x : ℕ). k ∈ members links x) (sym e) m) }
-
-  module _ {member : ℕ} (l : Looked root table heads links member) where
-    pub looked_more : 0 < member → {from next : ℕ} → from ≡ source_at table (member - 1) → next ≡ older_in links member → from < root →
-        Looked root table heads links next
-    looked_more more {from} {next} read on low =
-        record {
-          seen = λ k m. ⊎_elim
-              (λ i. ⊎_elim
-              (λ e. inr (omega (arith, ap (source_at table) e, read, low)))
-              (λ j. inl (subst (λ (x : ℕ). k ∈ members links x) (sym on) j))
-              (Memᴰ.cases_cons (subst (λ (z : List ℕ). k ∈ z) (members_first links member more) i)))
-              (λ i. inr i)
-              (l.seen k m);
-        }
-
-    pub looked_none : member ≤ 0 → Entered root table heads links false
+  module _ {others : List ℕ} (l : Looked root table heads links others) where
+    pub looked_none : others ≡ [] → Entered root table heads links false
     looked_none done =
         record {
           none_above = λ f E lists x a.
               let (k, i, e) = lists.complete x root a in
-              let z : member ≡ 0 = omega (arith, done) in
               ⊎_elim
-              (λ j. absurd (Memᴰ.not-nil (subst (λ (s : List ℕ). k ∈ s) (ap (members links) z ∙ no_members links) j)))
+              (λ j. absurd (Memᴰ.not-nil (subst (λ (s : List ℕ). k ∈ s) done j)))
               (λ j. omega (arith, e, j))
               (l.seen k i);
         }
-
-  pub looked_found : Entered root table heads links true
-  looked_found = record { none_above = λ f. absurd (true≢false f) }
 
 -- How many arrows are looked for next.
 module _ (best : Closing) (most : ℕ) where
@@ -170,8 +148,8 @@ module _ {groups most : ℕ} {table : Table} {heads links tails onward : List �
             queue_long = b.queue_long;
           }
 
-      module _ {limit : ℕ} (limited : limit ≡ limit_of best most) {distances lows' queue' : List ℕ} {found : Closing}
-          (s : Searched root limit table heads links onward cursors distances lows' queue' found) where
+      module _ {limit : ℕ} (limited : limit ≡ limit_of best most) {lows' queue' : List ℕ} {found : Closing}
+          (s : Searched root limit table heads links onward cursors lows' queue' found) where
         pub best_removable : Removable root cursors queue'
         best_removable = record { cursors_long = b.cursors_long; queue_long = s.queue_long; inside = omega (arith, more, b.within, b.fits) }
 
@@ -278,74 +256,63 @@ module _ {groups most : ℕ} {table : Table} {heads links tails onward : List �
             one
 
 -- One time after the other, for more arrows each time.
-pub record Trying (groups most : ℕ) (table : Table) (heads links tails onward lows queue : List ℕ) (c : Closing) : Type 0 where
+pub record Trying (groups most : ℕ) (tails lows queue : List ℕ) : Type 0 where
   pub some_looked : 1 ≤ most
-  pub most_fits : most ≤ max_items
-  pub fits : groups ≤ max_items
-  pub tails_long : length tails ≡ max_items
-  pub chosen : Chosen groups most table heads links tails onward lows queue c
+  pub rooted : Rooted groups most tails lows queue
 
 module _ {groups : ℕ} {tails lows queue : List ℕ} (r : Rooted groups max_items tails lows queue) where
-  pub rooted_first : Rooted groups 2 tails lows queue
-  rooted_first =
-      record { fits = r.fits; most_fits = omega arith; tails_long = r.tails_long; lows_long = r.lows_long; queue_long = r.queue_long }
-
-  pub trying_first : {table : Table} {heads links onward lows' queue' : List ℕ} {c : Closing} →
-      Chosen groups 2 table heads links tails onward lows' queue' c → Trying groups 2 table heads links tails onward lows' queue' c
-  trying_first k = record { some_looked = omega arith; most_fits = omega arith; fits = r.fits; tails_long = r.tails_long; chosen = k }
-
-module _ {groups most : ℕ} {table : Table} {heads links tails onward lows queue : List ℕ} {c : Closing}
-    (t : Trying groups most table heads links tails onward lows queue c) where
-  -- A way round of so few arrows beats all of more.
-  pub trying_found : 0 < c.arrows → Chosen groups max_items table heads links tails onward lows queue c
-  trying_found some_lead =
-      let k = t.chosen in
+  pub trying_first : Trying groups 2 tails lows queue
+  trying_first =
       record {
-        lows_long = k.lows_long;
-        queue_long = k.queue_long;
-        low = k.low;
-        few = omega (arith, k.few, t.most_fits);
-        choice = λ E i.
-            record {
-              walk = (k.choice E i).walk;
-              beats = λ m z one few w. decided (leb m most)
-                  (λ u. (k.choice E i).beats m z one (leb-true m most u) w)
-                  (λ u. let over : most < m = omega (arith, leb-false m most u) in
-                  record {
-                    some_lead = λ e. omega (arith, some_lead, e);
-                    fewer = omega (arith, over, k.few);
-                    lower = λ e. absurd (omega (arith, over, k.few, e));
-                  });
-            };
+        some_looked = omega arith;
+        rooted =
+            record { fits = r.fits; most_fits = omega arith; tails_long = r.tails_long; lows_long = r.lows_long; queue_long = r.queue_long };
       }
 
-  pub trying_all : max_items ≤ most → Chosen groups max_items table heads links tails onward lows queue c
-  trying_all done =
-      let e : most ≡ max_items = omega (arith, done, t.most_fits) in
-      subst (λ (n : ℕ). Chosen groups n table heads links tails onward lows queue c) e t.chosen
-
-  module _ {more : ℕ} (grown : Grown most more) where
-    pub trying_rooted : Rooted groups more tails lows queue
-    trying_rooted =
+module _ {groups most : ℕ} {tails lows queue : List ℕ} (t : Trying groups most tails lows queue) where
+  module _ {table : Table} {heads links onward lows' queue' : List ℕ} {c : Closing}
+      (k : Chosen groups most table heads links tails onward lows' queue' c) where
+    -- A way round of so few arrows beats all of more.
+    pub trying_found : 0 < c.arrows → Chosen groups max_items table heads links tails onward lows' queue' c
+    trying_found some_lead =
         record {
-          fits = t.fits;
-          most_fits = grown.fits;
-          tails_long = t.tails_long;
-          lows_long = t.chosen.lows_long;
-          queue_long = t.chosen.queue_long;
+          lows_long = k.lows_long;
+          queue_long = k.queue_long;
+          low = k.low;
+          few = omega (arith, k.few, t.rooted.most_fits);
+          choice = λ E i.
+              record {
+                walk = (k.choice E i).walk;
+                beats = λ m z one few w. decided (leb m most)
+                    (λ u. (k.choice E i).beats m z one (leb-true m most u) w)
+                    (λ u. let over : most < m = omega (arith, leb-false m most u) in
+                    record {
+                      some_lead = λ e. omega (arith, some_lead, e);
+                      fewer = omega (arith, over, k.few);
+                      lower = λ e. absurd (omega (arith, over, k.few, e));
+                    });
+              };
         }
 
-    module _ (below : most < max_items) where
+    pub trying_all : max_items ≤ most → Chosen groups max_items table heads links tails onward lows' queue' c
+    trying_all done =
+        let e : most ≡ max_items = omega (arith, done, t.rooted.most_fits) in
+        subst (λ (n : ℕ). Chosen groups n table heads links tails onward lows' queue' c) e k
+
+    module _ {more : ℕ} (grown : Grown most more) (below : most < max_items) where
       pub trying_less : max_items - more < max_items - most
       trying_less = omega (arith, grown.larger t.some_looked below, below)
 
-      pub trying_more : {lows' queue' : List ℕ} {c' : Closing} → Chosen groups more table heads links tails onward lows' queue' c' →
-          Trying groups more table heads links tails onward lows' queue' c'
-      trying_more k =
+      pub trying_more : Trying groups more tails lows' queue'
+      trying_more =
           record {
             some_looked = omega (arith, grown.larger t.some_looked below);
-            most_fits = grown.fits;
-            fits = t.fits;
-            tails_long = t.tails_long;
-            chosen = k;
+            rooted =
+                record {
+                  fits = t.rooted.fits;
+                  most_fits = grown.fits;
+                  tails_long = t.rooted.tails_long;
+                  lows_long = k.lows_long;
+                  queue_long = k.queue_long;
+                };
           }

@@ -58,9 +58,11 @@ module _ {start count : ℕ} {next : List ℕ} where
               ∙ ap (λ k. (f.met ++ at ∷ []) ++ followed (count - (done + 1)) k (entry_at next)) (sym e);
         }
 
-    pub followed_all : count ≤ done → ◌≡◌ {A = Found} (record { count = done; ring = ring }) (found_as (followed count start (entry_at next)))
+    pub followed_all : count ≤ done → ◌≡◌ {A = Found} (record { count = count; ring = ring }) (found_as (followed count start (entry_at next)))
     unfolding followed
     followed_all h =
         let z : count - done ≡ 0 = omega (arith, h) in
-        f.found
+        let e : count ≡ done = omega (arith, h, f.within) in
+        ap (λ (n : ℕ). record { count = n; ring = ring }) e
+        ∙ f.found
         ∙ ap found_as (sym (f.whole ∙ ap (λ k. f.met ++ followed k at (entry_at next)) z ∙ append-nil f.met))

@@ -154,10 +154,6 @@ module _ {table : Table} {onward cursors queue : List ℕ} {end : ℕ} (room : R
           thins = thins;
         }
 
-pub thinned_room : {table : Table} {onward cursors cursors' queue' : List ℕ} {end' : ℕ} → Thinned table onward cursors cursors' queue' end' →
-    Room cursors' queue' end'
-thinned_room t = t.room
-
 pub thinned_more : {table : Table} {onward cursors cursors' queue' cursors'' queue'' : List ℕ} {end' end'' : ℕ} →
     Thinned table onward cursors cursors' queue' end' → Thinned table onward cursors' cursors'' queue'' end'' → Thinned table onward cursors cursors'' queue'' end''
 thinned_more s t = record { room = t.room; thins = λ E o. thins_both (s.thins E o) (t.thins E (s.thins E o).onwards) }
@@ -167,22 +163,7 @@ module _ {table : Table} {onward cursors cursors' queue' : List ℕ} {end : ℕ}
   pub release_less : {at : ℕ} → at < end → max_items - (at + 1) < max_items - at
   release_less h = omega (arith, h, t.room.fits)
 
-  pub released : Thinned table onward cursors cursors' queue' max_items
-  released =
-      record {
-        room = record { cursors_long = t.room.cursors_long; queue_long = t.room.queue_long; fits = omega arith };
-        thins = t.thins;
-      }
-
 -- A group is taken out.
-pub out_room : {group : ℕ} {cursors queue : List ℕ} → Removable group cursors queue → Room (set cursors group 0) (set queue 0 group) 1
-out_room {group} {cursors} {queue} room =
-    record {
-      cursors_long = length-set cursors group 0 ∙ room.cursors_long;
-      queue_long = length-set queue 0 group ∙ room.queue_long;
-      fits = omega arith;
-    }
-
 module _ {group : ℕ} {table : Table} {onward cursors : List ℕ} where
   without_one : length cursors ≡ max_items → group < max_items → (E : List Edge) → Onward E table onward cursors →
       Without E table onward cursors (set cursors group 0) group

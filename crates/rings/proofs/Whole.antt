@@ -20,7 +20,6 @@ use Rattle.memory.specs.Tables.{Table}
 use Rattle.graph.specs.Edges.{among as among_groups, edges_in, groups_in, graph_in}
 use Rattle.graph.proofs.Edges.{selected_among, groups_bound}
 use Rattle.ordering.specs.Walks.{Walk, stay, step}
-use Rattle.ordering.proofs.Passing.{passes_walk}
 use Rattle.ordering.proofs.Closest.{Closest}
 use Rattle.ordering.proofs.Found.{ring_closest, ring_nowhere}
 use Rattle.ordering.proofs.Shortest.{Starts}
@@ -28,10 +27,10 @@ use Rattle.indexing.specs.Entries.{entry_at}
 use Rattle.indexing.proofs.Entries.{entry_is}
 use Rattle.rings.specs.declared.Found.{Found}
 use Rattle.rings.specs.Found.{waits, ring_among, found_as, counted}
-use Rattle.rings.specs.declared.searches.Closing.{Closing as Root}
-use Rattle.rings.specs.Searches.{numbers, Cleared, Indexed, among, Ready, Told, Distances, Searched}
+use Rattle.rings.specs.Searches.{numbers, Cleared, Indexed, among, Closing, Ready, Distances, Measured}
 use Rattle.rings.specs.Roots.{Rooted, Choice, Chosen}
 use Rattle.rings.specs.Nexts.{Nexts, followed}
+use Rattle.rings.proofs.Ending.{distances_lie}
 use Rattle.rings.proofs.Following.{followed_first}
 
 -- What is selected of numbers that rise rises, and is no more.
@@ -72,10 +71,17 @@ module _ (groups : ℕ) (waiting : List ℕ) (table : Table) (count : ℕ) (fits
   few_groups : length G ≤ max_items
   few_groups = omega (arith, select_few (waits waiting) (numbers_from 0 groups), numbers_from_length 0 groups, fits)
 
-  module _ {heads links tails onward queue queue' lows lows' distances distances' : List ℕ} (next : List ℕ) {best round : Root}
+  module _ {heads links tails onward queue lows : List ℕ} {best : Closing} (indexed : Indexed groups E table heads links tails onward)
+      (chosen : Chosen groups max_items table heads links tails onward lows queue best) where
+    nowhere : best.arrows ≡ 0 → ring G E ≡ []
+    nowhere z =
+        ring_nowhere G E starts rising
+        (λ y m one high w. ((chosen.choice E indexed).beats m y one (omega (arith, high, few_groups)) w).some_lead z)
+
+  module _ {heads links tails onward queue queue' lows lows' distances distances' : List ℕ} (next : List ℕ) {best : Closing}
       (indexed : Indexed groups E table heads links tails onward) (chosen : Chosen groups max_items table heads links tails onward lows queue best)
-      (searched : Searched best.group best.arrows table heads links onward tails distances lows' queue' round)
-      (marked : distances' ≡ set distances best.group (round.arrows + 1)) (nexts : Nexts E (entry_at distances') (entry_at next)) where
+      (measured : Measured best.group best.arrows table heads links tails distances lows' queue')
+      (marked : distances' ≡ set distances best.group (best.arrows + 1)) (nexts : Nexts E (entry_at distances') (entry_at next)) where
     -- All groups are left.
     all_left : among tails E ≡ E
     unfolding among
@@ -86,33 +92,13 @@ module _ (groups : ℕ) (waiting : List ℕ) (table : Table) (count : ℕ) (fits
     choice : Choice E max_items best
     choice = chosen.choice E indexed
 
-    told : Told E best.group best.arrows round
-    told = subst (λ (F : List Edge). Told F best.group best.arrows round) all_left (searched.told E indexed.lists indexed.onwards)
-
-    no_ring : best.arrows ≡ 0 → followed round.arrows best.group (entry_at next) ≡ ring G E
+    no_ring : best.arrows ≡ 0 → followed best.arrows best.group (entry_at next) ≡ ring G E
     unfolding followed
-    no_ring z =
-        let none : round.arrows ≡ 0 = omega (arith, z, searched.few) in
-        ap (λ k. followed k best.group (entry_at next)) none
-        ∙ sym (ring_nowhere G E starts rising (λ y m one high w. (choice.beats m y one (omega (arith, high, few_groups)) w).some_lead z))
+    no_ring z = ap (λ k. followed k best.group (entry_at next)) z ∙ sym (nowhere indexed chosen z)
 
-    some_ring : ¬ (best.arrows ≡ 0) → followed round.arrows best.group (entry_at next) ≡ ring G E
+    some_ring : ¬ (best.arrows ≡ 0) → followed best.arrows best.group (entry_at next) ≡ ring G E
     some_ring n = go (best.arrows - 1) (omega (arith, n))
       where
-        nonzero : ¬ (round.arrows ≡ 0)
-        nonzero z = told.none z best.arrows (omega (arith, n)) (omega arith) (choice.walk n)
-
-        back : Walk E round.arrows best.group best.group
-        back = passes_walk (told.way nonzero)
-
-        same : round.arrows ≡ best.arrows
-        same =
-            omega (
-              arith,
-              searched.few,
-              (choice.beats round.arrows best.group (omega (arith, nonzero)) (omega (arith, searched.few, chosen.few)) back).fewer,
-            )
-
         -- A way round of more arrows than there may be is longer.
         fewest : (x m : ℕ) → 1 ≤ m → Walk E m x x → best.arrows ≤ m
         fewest x m one w =
@@ -135,51 +121,62 @@ module _ (groups : ℕ) (waiting : List ℕ) (table : Table) (count : ℕ) (fits
             inside one (step a w) = starts _ a
 
         long : length distances' ≡ max_items
-        long = ap length marked ∙ length-set distances best.group (round.arrows + 1) ∙ searched.distances_long
+        long = ap length marked ∙ length-set distances best.group (best.arrows + 1) ∙ measured.distances_long
 
-        D-root : entry_at distances' best.group ≡ round.arrows + 1
+        D-root : entry_at distances' best.group ≡ best.arrows + 1
         D-root =
             entry_is distances' best.group long
             ∙ ap (λ l. get_or l best.group 0) marked
-            ∙ get_or-set_same distances best.group (round.arrows + 1) 0 (omega (arith, chosen.low, searched.distances_long))
+            ∙ get_or-set_same distances best.group (best.arrows + 1) 0 (omega (arith, chosen.low, measured.distances_long))
 
         D-other : (x : ℕ) → ¬ (x ≡ best.group) → entry_at distances' x ≡ numbers distances x
         D-other x k =
-            entry_is distances' x long ∙ ap (λ l. get_or l x 0) marked ∙ get_or-set_other distances best.group x (round.arrows + 1) 0 k
+            entry_is distances' x long ∙ ap (λ l. get_or l x 0) marked ∙ get_or-set_other distances best.group x (best.arrows + 1) 0 k
 
-        far : Distances E best.group round.arrows (numbers distances)
-        far = subst (λ (F : List Edge). Distances F best.group round.arrows (numbers distances)) all_left (searched.far nonzero E indexed.lists indexed.onwards)
+        far : Distances E best.group best.arrows (numbers distances)
+        far =
+            subst (λ (F : List Edge). Distances F best.group best.arrows (numbers distances)) all_left
+            (distances_lie (measured.explored E indexed.lists))
 
-        go : (k : ℕ) → best.arrows ≡ suc k → followed round.arrows best.group (entry_at next) ≡ ring G E
+        go : (k : ℕ) → best.arrows ≡ suc k → followed best.arrows best.group (entry_at next) ≡ ring G E
         go k e =
-            let as_many : round.arrows ≡ suc k = same ∙ e in
-            ap (λ j. followed j best.group (entry_at next)) as_many
+            ap (λ j. followed j best.group (entry_at next)) e
             ∙ followed_first E indexed.lists.below best.group k
             (subst (λ (j : ℕ). Walk E j best.group best.group) e (choice.walk n))
             (λ m one w. omega (arith, e, fewest best.group m one w))
             (numbers distances) (entry_at distances') (entry_at next)
-            (subst (λ (j : ℕ). Distances E best.group j (numbers distances)) as_many far)
-            (omega (arith, D-root, as_many)) D-other nexts
+            (subst (λ (j : ℕ). Distances E best.group j (numbers distances)) e far)
+            (omega (arith, D-root, e)) D-other nexts
             ∙ ap (λ j. first_walk j best.group best.group E) (sym e)
             ∙ sym (ring_closest G E starts rising (record { group = best.group; arrows = best.arrows }) closest)
 
-    pub ring_same : followed round.arrows best.group (entry_at next) ≡ ring G E
+    pub ring_same : followed best.arrows best.group (entry_at next) ≡ ring G E
     ring_same = decided (eqb best.arrows 0) (λ t. no_ring (eqb-true best.arrows 0 t)) (λ t. some_ring (eqb-false best.arrows 0 t))
 
 -- The answer, for as many groups as there are.
 pub answer : (groups : ℕ) (waiting : List ℕ) (table : Table) (count : ℕ) {limit : ℕ} → limit ≡ groups_in groups →
-    {heads links tails onward queue queue' lows lows' distances distances' : List ℕ} (next : List ℕ) {best round : Root} →
+    {heads links tails onward queue queue' lows lows' distances distances' : List ℕ} (next : List ℕ) {best : Closing} →
     Indexed limit (counted limit waiting (edges_in count table)) table heads links tails onward →
     Chosen limit max_items table heads links tails onward lows queue best →
-    Searched best.group best.arrows table heads links onward tails distances lows' queue' round →
-    distances' ≡ set distances best.group (round.arrows + 1) →
+    Measured best.group best.arrows table heads links tails distances lows' queue' →
+    distances' ≡ set distances best.group (best.arrows + 1) →
     Nexts (counted limit waiting (edges_in count table)) (entry_at distances') (entry_at next) →
-    {f : Found} → f ≡ found_as (followed round.arrows best.group (entry_at next)) →
+    {f : Found} → f ≡ found_as (followed best.arrows best.group (entry_at next)) →
     f ≡ found_as (ring_among (groups_in groups) waiting (graph_in groups count table))
 unfolding ring_among
-answer groups waiting table count {limit} bound next indexed chosen searched marked nexts found =
+answer groups waiting table count {limit} bound next indexed chosen measured marked nexts found =
     found
-    ∙ ap found_as (ring_same limit waiting table count (rw bound (groups_bound groups)) next indexed chosen searched marked nexts)
+    ∙ ap found_as (ring_same limit waiting table count (rw bound (groups_bound groups)) next indexed chosen measured marked nexts)
+    ∙ ap (λ n. found_as (ring_among n waiting (select (among_groups n) (edges_in count table)))) bound
+
+-- No arrows lead back to any group.
+pub answer_none : (groups : ℕ) (waiting : List ℕ) (table : Table) (count : ℕ) {limit : ℕ} → limit ≡ groups_in groups →
+    {heads links tails onward queue lows : List ℕ} → Indexed limit (counted limit waiting (edges_in count table)) table heads links tails onward →
+    {best : Closing} → Chosen limit max_items table heads links tails onward lows queue best → best.arrows ≡ 0 →
+    found_as [] ≡ found_as (ring_among (groups_in groups) waiting (graph_in groups count table))
+unfolding ring_among
+answer_none groups waiting table count bound indexed chosen z =
+    ap found_as (sym (nowhere _ waiting table count (rw bound (groups_bound groups)) indexed chosen z))
     ∙ ap (λ n. found_as (ring_among n waiting (select (among_groups n) (edges_in count table)))) bound
 
 -- What the calls ask for.
@@ -201,6 +198,6 @@ rooted groups e i =
       queue_long = length-replicate {A = ℕ} max_items 0;
     }
 
-pub ready_again : {groups : ℕ} {table : Table} {heads links tails onward lows queue : List ℕ} {c : Root} →
+pub ready_again : {groups : ℕ} {table : Table} {heads links tails onward lows queue : List ℕ} {c : Closing} →
     Chosen groups max_items table heads links tails onward lows queue c → Ready c.group c.arrows lows queue
 ready_again k = record { root_fits = k.low; most_fits = k.few; lows_long = k.lows_long; queue_long = k.queue_long }

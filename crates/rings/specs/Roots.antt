@@ -6,8 +6,7 @@ use Rattle.model.specs.HappensBefore.{Edge, ◌⟶◌}
 use Rattle.model.specs.Lists.{◌∈◌}
 use Rattle.memory.specs.Tables.{Table}
 use Rattle.ordering.specs.Walks.{Walk}
-use Rattle.rings.specs.declared.searches.Closing.{Closing}
-use Rattle.rings.specs.Searches.{Lists, Indexed, Beats}
+use Rattle.rings.specs.Searches.{Lists, Indexed, Closing, Beats}
 
 -- What a look at the arrows into a group tells: where none is told, all come from groups below it.
 pub record Entered (root : ℕ) (table : Table) (heads links : List ℕ) (told : Bool) : Type 0 where

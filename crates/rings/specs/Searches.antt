@@ -1,6 +1,6 @@
 -- The lists of arrows that a search goes by, and the search back from a group, its root, through the groups that are left: which groups were met, in
 -- which order, how many arrows lead from each to the root, and the lowest group on a way that short.
-use Rattle.std.specs.Prelude.{ℕ, suc, ◌+◌, ◌-◌, ◌≤◌, ◌<◌, min, ◌≡◌, not, List, ◌⊎◌, eqb, length, get_or, set, replicate}
+use Rattle.std.specs.Prelude.{ℕ, suc, Option, Some, None, ◌+◌, ◌-◌, ◌≤◌, ◌<◌, min, ◌≡◌, not, List, ◌⊎◌, eqb, length, get_or, set, replicate}
 use Rattle.model.specs.Limits.{max_items, max_edges}
 use Rattle.model.specs.Choice.{select}
 use Rattle.model.specs.HappensBefore.{Edge, ◌⟶◌}
@@ -10,7 +10,7 @@ use Rattle.chains.specs.Chains.{members}
 use Rattle.graph.specs.Edges.{source_at, target_at}
 use Rattle.indexing.specs.Entries.{entry_at}
 use Rattle.ordering.specs.Walks.{Walk, Passes}
-use Rattle.rings.specs.declared.searches.Closing.{Closing}
+use Rattle.rings.specs.declared.closings.Closing.{Closing as Told-closing}
 use Rattle.rings.specs.declared.searches.Reached.{Reached}
 
 -- The lists by target stand for these arrows.
@@ -124,11 +124,6 @@ pub record Back (at end : ℕ) (table : Table) (heads links left distances lows 
       State (among left E) root at end (numbers distances) (numbers lows) (numbers queue) →
       State (among left E) root (suc at) end' (numbers distances') (numbers lows') (numbers queue')
 
--- Only the root is met.
-pub record Begun (most : ℕ) (distances lows queue : List ℕ) : Type 0 where
-  pub most_fits : most ≤ max_items
-  pub arrays : Arrays 1 distances lows queue
-
 -- The arrows were gone back into all groups that were met at less than so great a distance.
 pub record Explored (F : List Edge) (root most : ℕ) (D L Q : ℕ → ℕ) : Type 0 where
   pub at : ℕ
@@ -136,16 +131,24 @@ pub record Explored (F : List Edge) (root most : ℕ) (D L Q : ℕ → ℕ) : Ty
   pub state : State F root at end D L Q
   pub beyond : (i : ℕ) → at ≤ i → i < end → most ≤ D (Q i)
 
-pub record Explores (most : ℕ) (table : Table) (heads links left distances lows queue distances' lows' queue' : List ℕ) : Type 0 where
-  pub distances_long : length distances' ≡ max_items
-  pub lows_long : length lows' ≡ max_items
-  pub queue_long : length queue' ≡ max_items
-  pub explored : (root : ℕ) (E : List Edge) → Lists E table heads links →
-      State (among left E) root 0 1 (numbers distances) (numbers lows) (numbers queue) →
-      Explored (among left E) root most (numbers distances') (numbers lows') (numbers queue')
+pub record Measured (root most : ℕ) (table : Table) (heads links left distances lows queue : List ℕ) : Type 0 where
+  pub distances_long : length distances ≡ max_items
+  pub lows_long : length lows ≡ max_items
+  pub queue_long : length queue ≡ max_items
+  pub explored : (E : List Edge) → Lists E table heads links → Explored (among left E) root most (numbers distances) (numbers lows) (numbers queue)
+
+-- A group, and how many arrows lead back to it: 0 if none do.
+pub record Closing : Type 0 where
+  pub group : ℕ
+  pub arrows : ℕ
 
 abbrev pub closing : (group arrows : ℕ) → Closing
 closing group arrows = record { group = group; arrows = arrows }
+
+-- What the code answers, where it has none if no arrows lead back.
+abbrev pub closing_in : Option Told-closing → Closing
+closing_in None = closing 0 0
+closing_in (Some c) = closing c.group c.arrows
 
 -- So many arrows lead back to this group; to a group z not fewer than m do, and if as many, it is no higher than z.
 pub record Beats (c : Closing) (m z : ℕ) : Type 0 where
@@ -161,7 +164,8 @@ pub record Better (best found c : Closing) : Type 0 where
 
 -- What is told of an arrow from the root to a group: the group's distance, if it is near enough, and the lowest group on its way.
 pub record ClosesBy (root to most : ℕ) (distances lows : List ℕ) (c : Closing) : Type 0 where
-  pub group : c.group ≡ min root (entry_at lows to)
+  pub low : c.group ≤ root
+  pub group : ¬ (c.arrows ≡ 0) → c.group ≡ min root (entry_at lows to)
   pub near : entry_at distances to ≤ most → c.arrows ≡ entry_at distances to
   pub far : most < entry_at distances to → c.arrows ≡ 0
 
@@ -188,12 +192,9 @@ pub record Distances (F : List Edge) (root arrows : ℕ) (D : ℕ → ℕ) : Typ
   pub sound : (x : ℕ) → ¬ (D x ≡ 0) → Walk F (D x - 1) x root
   pub complete : (m x : ℕ) → m + 1 ≤ arrows → Walk F m x root → (¬ (D x ≡ 0)) × (D x ≤ m + 1)
 
-pub record Searched (root most : ℕ) (table : Table) (heads links onward left distances lows queue : List ℕ) (c : Closing) : Type 0 where
-  pub distances_long : length distances ≡ max_items
+pub record Searched (root most : ℕ) (table : Table) (heads links onward left lows queue : List ℕ) (c : Closing) : Type 0 where
   pub lows_long : length lows ≡ max_items
   pub queue_long : length queue ≡ max_items
   pub few : c.arrows ≤ most
   pub low : c.group ≤ root
   pub told : (E : List Edge) → Lists E table heads links → Onward E table onward left → Told (among left E) root most c
-  pub far : ¬ (c.arrows ≡ 0) → (E : List Edge) → Lists E table heads links → Onward E table onward left →
-      Distances (among left E) root c.arrows (numbers distances)

@@ -3,8 +3,9 @@
 #![tactic(auto)]
 
 mod arrows;
+mod closings;
 mod nexts;
-mod numbers;
+mod queues;
 mod removing;
 mod roots;
 mod searches;
@@ -13,10 +14,11 @@ ghost use Rattle.std.specs.Prelude.{◌≡◌};
 ghost use Rattle.graph.specs.Edges.{groups_in, graph_in};
 ghost use Rattle.rings.specs.Found.{ring_among, found_as};
 
-use crate::arrows::list_arrows;
+use crate::arrows::Arrows;
 use crate::nexts::{follow, lowest_nexts};
+use crate::queues::Queue;
 use crate::roots::closest;
-use crate::searches::search;
+use crate::searches::Search;
 use graph::{EDGES, Edges, Groups, groups_in};
 use model::ITEMS;
 
@@ -33,49 +35,32 @@ pub fn ring(groups: u16, edges: &Edges, count: usize, waiting: &Groups) -> Found
     ensures { result ≡ found_as (ring_among (groups_in groups) waiting.now (graph_in groups count edges.now)) }
 {
     let limit = groups_in(groups);
-    let mut heads = [0; ITEMS];
-    let mut links = [0; EDGES];
-    let mut tails = [0; ITEMS];
-    let mut onward = [0; EDGES];
-    list_arrows(
-        limit,
+    let mut arrows = Arrows {
         edges,
-        count,
-        waiting,
-        &mut heads,
-        &mut links,
-        &mut tails,
-        &mut onward,
-    );
-    let mut distances = [0; ITEMS];
-    let mut lows = [0; ITEMS];
-    let mut queue = [0; ITEMS];
-    let best = closest(
-        limit,
-        edges,
-        &heads,
-        &links,
-        &tails,
-        &onward,
-        &mut distances,
-        &mut lows,
-        &mut queue,
-    );
-    let group = best.group;
-    let round = search(
-        group,
-        best.arrows,
-        edges,
-        &heads,
-        &links,
-        &onward,
-        &tails,
-        &mut distances,
-        &mut lows,
-        &mut queue,
-    );
-    let arrows = round.arrows;
-    distances[group as usize] = arrows + 1;
-    let next = lowest_nexts(limit, edges, count, waiting, &distances);
-    follow(group, arrows, &next)
+        heads: [0; ITEMS],
+        links: [0; EDGES],
+        tails: [0; ITEMS],
+        onward: [0; EDGES],
+    };
+    arrows.list(limit, count, waiting);
+    let mut search = Search {
+        distances: [0; ITEMS],
+        lows: [0; ITEMS],
+        queue: Queue {
+            groups: [0; ITEMS],
+            end: 0,
+        },
+    };
+    match closest(limit, &arrows, &mut search) {
+        Some(best) => {
+            search.measure(best.group, best.arrows, &arrows, &arrows.tails);
+            search.distances[best.group as usize] = best.arrows + 1;
+            let next = lowest_nexts(limit, edges, count, waiting, &search.distances);
+            follow(best.group, best.arrows, &next)
+        }
+        None => Found {
+            count: 0,
+            ring: [0; ITEMS],
+        },
+    }
 }

@@ -8,7 +8,6 @@ ghost use Rattle.rings.specs.Nexts.{TellsNearer, Nexts, followed};
 
 use crate::Found;
 use crate::arrows::counts;
-use crate::numbers::lower;
 use graph::{Edges, Groups, edges_in, source, target};
 use indexing::entry;
 use model::ITEMS;
@@ -22,16 +21,7 @@ fn nearer(distances: &Groups, from: u16, to: u16) -> bool
 {
     let far = entry(distances, from as usize);
     let near = entry(distances, to as usize);
-    if near == 0 {
-        return false;
-    }
-    if far <= near {
-        return false;
-    }
-    if far - near == 1 {
-        return true;
-    }
-    false
+    0 < near && near < far && far - near == 1
 }
 
 // The entry of a group is no higher than a number.
@@ -40,7 +30,7 @@ fn lower_entry(next: &mut Groups, group: u16, number: u16)
     ensures { next.new ≡ set next.old group (min number (get_or next.old group 0)) }
 {
     let at = group as usize;
-    next[at] = lower(number, next[at]);
+    next[at] = number.min(next[at]);
 }
 
 // For each group the lowest next one that lies nearer.
@@ -55,11 +45,7 @@ pub fn lowest_nexts(
     ensures { Nexts (counted groups waiting.now (edges_in count edges.now)) (entry_at distances.now) (entry_at result) }
 {
     let mut next = [NONE; ITEMS];
-    let last = edges_in(count);
-    let mut place = 0;
-    while place < last {
-        let edge = place;
-        place += 1;
+    for edge in 0..edges_in(count) {
         let from = source(edges, edge);
         let to = target(edges, edge);
         if counts(groups, waiting, from, to) {
@@ -71,13 +57,6 @@ pub fn lowest_nexts(
     next
 }
 
-// The next group of one.
-fn after(next: &Groups, group: u16) -> u16
-    ensures { result ≡ entry_at next.now group }
-{
-    entry(next, group as usize)
-}
-
 // So many groups from one on, each the next of the one before.
 pub fn follow(start: u16, count: u16, next: &Groups) -> Found
     requires { count ≤ max_items }
@@ -85,12 +64,10 @@ pub fn follow(start: u16, count: u16, next: &Groups) -> Found
 {
     let mut ring = [0; ITEMS];
     let mut at = start;
-    let limit = count as usize;
-    let mut done = 0;
-    while done < limit {
-        ring[done] = at;
-        done += 1;
-        at = after(next, at);
+    let count = count as usize;
+    for place in 0..count {
+        ring[place] = at;
+        at = entry(next, at as usize);
     }
-    Found { count: done, ring }
+    Found { count, ring }
 }

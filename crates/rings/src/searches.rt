@@ -1,20 +1,13 @@
 // The search back from a group through the groups that are left.
 ghost use Rattle.std.specs.Prelude.{◌≡◌};
-ghost use Rattle.rings.specs.Searches.{reached_at, Meets, Visits, Ahead, Back, Begun, Explores, Better, ClosesBy, Closes, Ready, Searched};
+ghost use Rattle.rings.specs.Searches.{reached_at, Meets, Visits, Ahead, Back, Better, ClosesBy, Closes, Ready, Measured, Searched, closing_in};
 
-use crate::arrows::{end_of, start_of};
-use crate::numbers::lower;
-use chains::older;
-use graph::{Edges, Groups};
-use indexing::{Links, entry};
+use crate::arrows::Arrows;
+use crate::closings::Closing;
+use crate::queues::Queue;
+use graph::{Groups, source, target};
+use indexing::entry;
 use model::ITEMS;
-
-// A group, and how many arrows lead back to it: 0 if none do.
-#[derive(Clone, Copy)]
-pub struct Closing {
-    pub group: u16,
-    pub arrows: u16,
-}
 
 // A group that was met, its distance, and the lowest group on its way.
 #[derive(Clone, Copy)]
@@ -24,208 +17,142 @@ pub struct Reached {
     pub low: u16,
 }
 
-// The group at a place of the queue.
-fn reached_at(at: usize, distances: &Groups, lows: &Groups, queue: &Groups) -> Reached
-    ensures { result ≡ reached_at at distances.now lows.now queue.now }
+// The lower of two, if there are two.
+pub fn better(best: Option<Closing>, found: Option<Closing>) -> Option<Closing>
+    ensures { Better (closing_in best) (closing_in found) (closing_in result) }
 {
-    let group = entry(queue, at);
-    let level = entry(distances, group as usize);
-    let low = entry(lows, group as usize);
-    Reached { group, level, low }
+    match (best, found) {
+        (Some(best), Some(found)) => Some(best.min(found)),
+        (None, found) => found,
+        (best, None) => best,
+    }
 }
 
-// Meets a group at this distance, by way of a group from which the lowest on the way is `low`. One that was met at this distance has the lowest of
-// both ways.
-fn meet(
-    from: u16,
-    distance: u16,
-    low: u16,
-    distances: &mut Groups,
-    lows: &mut Groups,
-    queue: &mut Groups,
-    end: usize,
-) -> usize
-    ensures { Meets from distance low distances.old lows.old queue.old end
-        distances.new lows.new queue.new result }
-{
-    let group = from as usize;
-    if group < ITEMS {
-        let known = distances[group];
-        if known > 0 {
-            if known == distance {
-                lows[group] = lower(lows[group], low);
+// What a search notes: for each group its distance, which is 1 more than the arrows to the root and 0 if it was not met, and the lowest group on its way;
+// and the groups met.
+#[derive(Drop)]
+pub struct Search {
+    pub distances: Groups,
+    pub lows: Groups,
+    pub queue: Queue,
+}
+
+impl Search {
+    // The group at a place of the queue.
+    fn reached_at(&self, at: usize) -> Reached
+        ensures { result ≡ reached_at at self.now.distances self.now.lows self.now.queue.groups }
+    {
+        let group = entry(&self.queue.groups, at);
+        let level = entry(&self.distances, group as usize);
+        let low = entry(&self.lows, group as usize);
+        Reached { group, level, low }
+    }
+
+    // Meets a group at this distance, by way of a group from which the lowest on the way is `low`. One that was met at this distance has the lowest of
+    // both ways.
+    fn meet(&mut self, from: u16, distance: u16, low: u16)
+        ensures { Meets from distance low self.old.distances self.old.lows self.old.queue.groups self.old.queue.end
+            self.new.distances self.new.lows self.new.queue.groups self.new.queue.end }
+    {
+        let group = from as usize;
+        if group < ITEMS {
+            let known = self.distances[group];
+            if known == 0 {
+                if self.queue.end < ITEMS {
+                    self.distances[group] = distance;
+                    self.lows[group] = from.min(low);
+                    self.queue.push(from);
+                }
+            } else if known == distance {
+                self.lows[group] = self.lows[group].min(low);
             }
-            return end;
-        }
-        if end < ITEMS {
-            distances[group] = distance;
-            lows[group] = lower(from, low);
-            queue[end] = from;
-            return end + 1;
         }
     }
-    end
-}
 
-// Meets the group that an arrow comes from, if it is left.
-fn visit(
-    from: u16,
-    distance: u16,
-    low: u16,
-    left: &Groups,
-    distances: &mut Groups,
-    lows: &mut Groups,
-    queue: &mut Groups,
-    end: usize,
-) -> usize
-    ensures { Visits from distance low left.now distances.old lows.old queue.old end
-        distances.new lows.new queue.new result }
-{
-    if entry(left, from as usize) == 0 {
-        return end;
-    }
-    meet(from, distance, low, distances, lows, queue, end)
-}
-
-// Goes back along the arrows into the group at a place of the queue.
-fn step_back(
-    at: usize,
-    next: Reached,
-    edges: &Edges,
-    heads: &Groups,
-    links: &Links,
-    left: &Groups,
-    distances: &mut Groups,
-    lows: &mut Groups,
-    queue: &mut Groups,
-    end: usize,
-) -> usize
-    requires { Ahead at next end distances.old lows.old queue.old }
-    ensures { Back at end edges.now heads.now links.now left.now
-        distances.old lows.old queue.old distances.new lows.new queue.new result }
-{
-    let distance = next.level + 1;
-    let low = next.low;
-    let mut member = entry(heads, next.group as usize);
-    let mut last = end;
-    while member > 0 {
-        let from = start_of(edges, member);
-        member = older(links, member);
-        last = visit(from, distance, low, left, distances, lows, queue, last);
-    }
-    last
-}
-
-// Meets the groups from which fewer than so many arrows lead to where the search began.
-fn explore(
-    most: u16,
-    edges: &Edges,
-    heads: &Groups,
-    links: &Links,
-    left: &Groups,
-    distances: &mut Groups,
-    lows: &mut Groups,
-    queue: &mut Groups,
-)
-    requires { Begun most distances.old lows.old queue.old }
-    ensures { Explores most edges.now heads.now links.now left.now
-        distances.old lows.old queue.old distances.new lows.new queue.new }
-{
-    let mut end = 1;
-    let mut at = 0;
-    while at < end {
-        let next = reached_at(at, distances, lows, queue);
-        if most <= next.level {
-            return;
+    // Meets the group that an arrow comes from, if it is left.
+    fn visit(&mut self, from: u16, distance: u16, low: u16, left: &Groups)
+        ensures { Visits from distance low left.now
+            self.old.distances self.old.lows self.old.queue.groups self.old.queue.end
+            self.new.distances self.new.lows self.new.queue.groups self.new.queue.end }
+    {
+        if entry(left, from as usize) != 0 {
+            self.meet(from, distance, low);
         }
-        end = step_back(
-            at, next, edges, heads, links, left, distances, lows, queue, end,
-        );
-        at += 1;
     }
-}
 
-// The one with fewer arrows; if they have as many, with the lower group.
-pub fn better(best: Closing, found: Closing) -> Closing
-    ensures { Better best found result }
-{
-    if found.arrows == 0 {
-        return best;
+    // Goes back along the arrows into the group at a place of the queue.
+    fn step_back(&mut self, at: usize, next: Reached, arrows: &Arrows, left: &Groups)
+        requires { Ahead at next self.old.queue.end self.old.distances self.old.lows self.old.queue.groups }
+        ensures { Back at self.old.queue.end arrows.now.edges.now arrows.now.heads arrows.now.links left.now
+            self.old.distances self.old.lows self.old.queue.groups
+            self.new.distances self.new.lows self.new.queue.groups self.new.queue.end }
+    {
+        let distance = next.level + 1;
+        let low = next.low;
+        for edge in arrows.into(next.group) {
+            self.visit(source(arrows.edges, edge), distance, low, left);
+        }
     }
-    if best.arrows == 0 {
-        return found;
-    }
-    if found.arrows < best.arrows {
-        return found;
-    }
-    if best.arrows < found.arrows {
-        return best;
-    }
-    Closing {
-        group: lower(best.group, found.group),
-        arrows: best.arrows,
-    }
-}
 
-// The shortest ways round by an arrow from the root to a group, if they have at most so many arrows, and the lowest group on them.
-fn closing_by(root: u16, to: u16, most: u16, distances: &Groups, lows: &Groups) -> Closing
-    ensures { ClosesBy root to most distances.now lows.now result }
-{
-    let group = lower(root, entry(lows, to as usize));
-    let arrows = entry(distances, to as usize);
-    if arrows <= most {
-        return Closing { group, arrows };
+    // Meets the groups from which fewer than so many arrows lead to a root, through the groups that are left.
+    pub fn measure(&mut self, root: u16, most: u16, arrows: &Arrows, left: &Groups)
+        requires { Ready root most self.old.lows self.old.queue.groups }
+        ensures { Measured root most arrows.now.edges.now arrows.now.heads arrows.now.links left.now
+            self.new.distances self.new.lows self.new.queue.groups }
+    {
+        self.distances = [0; ITEMS];
+        self.distances[root as usize] = 1;
+        self.lows[root as usize] = root;
+        self.queue.begin(root);
+        let mut at = 0;
+        while at < self.queue.end {
+            let next = self.reached_at(at);
+            if most <= next.level {
+                return;
+            }
+            self.step_back(at, next, arrows, left);
+            at += 1;
+        }
     }
-    Closing { group, arrows: 0 }
-}
 
-// The same by all arrows from the root to groups that are left.
-fn closing_of(
-    root: u16,
-    most: u16,
-    edges: &Edges,
-    onward: &Links,
-    left: &Groups,
-    distances: &Groups,
-    lows: &Groups,
-) -> Closing
-    ensures { Closes root most edges.now onward.now left.now distances.now lows.now result }
-{
-    let mut best = Closing {
-        group: root,
-        arrows: 0,
-    };
-    let mut member = entry(left, root as usize);
-    while member > 0 {
-        let to = end_of(edges, member);
-        member = older(onward, member);
-        best = better(best, closing_by(root, to, most, distances, lows));
+    // The shortest ways round by an arrow from the root to a group, if they have at most so many arrows.
+    fn closing_by(&self, root: u16, to: u16, most: u16) -> Option<Closing>
+        ensures { ClosesBy root to most self.now.distances self.now.lows (closing_in result) }
+    {
+        let arrows = entry(&self.distances, to as usize);
+        if 0 < arrows && arrows <= most {
+            let group = root.min(entry(&self.lows, to as usize));
+            Some(Closing { arrows, group })
+        } else {
+            None
+        }
     }
-    best
-}
 
-// How many arrows lead back to a group through the groups that are left, at most so many, and the lowest group on such a way. Distances are 1 more than
-// the arrows to the root, and 0 for the groups that were not met.
-pub fn search(
-    root: u16,
-    most: u16,
-    edges: &Edges,
-    heads: &Groups,
-    links: &Links,
-    onward: &Links,
-    left: &Groups,
-    distances: &mut Groups,
-    lows: &mut Groups,
-    queue: &mut Groups,
-) -> Closing
-    requires { Ready root most lows.old queue.old }
-    ensures { Searched root most edges.now heads.now links.now onward.now left.now
-        distances.new lows.new queue.new result }
-{
-    *distances = [0; ITEMS];
-    distances[root as usize] = 1;
-    lows[root as usize] = root;
-    queue[0] = root;
-    explore(most, edges, heads, links, left, distances, lows, queue);
-    closing_of(root, most, edges, onward, left, distances, lows)
+    // The same by all arrows from the root to groups that are left.
+    fn closing_of(&self, root: u16, most: u16, arrows: &Arrows, left: &Groups) -> Option<Closing>
+        ensures { Closes root most arrows.now.edges.now arrows.now.onward left.now self.now.distances self.now.lows (closing_in result) }
+    {
+        let mut best = None;
+        for edge in arrows.onward_from(entry(left, root as usize)) {
+            let to = target(arrows.edges, edge);
+            best = better(best, self.closing_by(root, to, most));
+        }
+        best
+    }
+
+    // How many arrows lead back to a group through the groups that are left, at most so many, and the lowest group on such a way.
+    pub fn search(
+        &mut self,
+        root: u16,
+        most: u16,
+        arrows: &Arrows,
+        left: &Groups,
+    ) -> Option<Closing>
+        requires { Ready root most self.old.lows self.old.queue.groups }
+        ensures { Searched root most arrows.now.edges.now arrows.now.heads arrows.now.links arrows.now.onward left.now
+            self.new.lows self.new.queue.groups (closing_in result) }
+    {
+        self.measure(root, most, arrows, left);
+        self.closing_of(root, most, arrows, left)
+    }
 }

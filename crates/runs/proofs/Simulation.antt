@@ -10,7 +10,7 @@ use borrow.Author.Tests.{lt-ltb}
 use Rattle.model.specs.declared.Header.{Header}
 use Rattle.model.specs.declared.Item.{Item}
 use Rattle.model.specs.Limits.{max_items}
-use Rattle.model.specs.Refusals.{Result, ok, refused, ◌>>=◌}
+use Rattle.model.specs.Refusals.{Result, Ok, Err, ◌>>=◌}
 use Rattle.model.specs.Bytes.{found}
 use Rattle.model.specs.Programs.{Program}
 use Rattle.model.specs.Records.{read_item}
@@ -38,8 +38,7 @@ use Rattle.items.specs.declared.rows.Progress.{Progress}
 use Rattle.items.specs.Accesses.{access_number}
 use Rattle.record.specs.Places.{ItemsFrom, ended, then}
 use Rattle.trails.specs.Trails.{row_of_event, told, trail_of, trail_size}
-use Rattle.runs.specs.declared.SoFar.{SoFar}
-use Rattle.runs.specs.Items.{RunState, begun, Went, taken, stopped, standing, go_on, items_on, so_far_on}
+use Rattle.runs.specs.Items.{SoFar, RunState, begun, Went, taken, stopped, standing, go_on, items_on, so_far_on}
 use Rattle.runs.specs.Promise.{Readable, TakesAs, went_from, Runs}
 
 -- An item that was read fits.
@@ -55,7 +54,7 @@ item_fits r =
     }
 
 -- There is an event for each item.
-pub events_counted : (P : Program) (s : Replay) (at : ℕ) (items : List Item) {r : Replayed} → take_items P s at items ≡ ok r →
+pub events_counted : (P : Program) (s : Replay) (at : ℕ) (items : List Item) {r : Replayed} → take_items P s at items ≡ Ok r →
     length r.events ≡ length items
 events_counted P s at items {r} h = sym (length-map r.events (λ e. e.item)) ∙ ap length (taken_items P s at items h)
 
@@ -117,18 +116,18 @@ pub record Arrives (old : Table) (done : List Event) (end place : ℕ) (s : RunS
   pub reached : Reached old done s state
 
 abbrev Together : (old : Table) → (done : List Event) → (end : ℕ) → Result Replayed → Went → Type 0
-Together old done end (ok r) (taken place s) = Arrives old (done ++ r.events) end place s r.last
-Together old done end (refused x) (stopped y s) = x ≡ y
-Together old done end (ok r) (stopped y s) = ⊥
-Together old done end (refused x) (taken place s) = ⊥
+Together old done end (Ok r) (taken place s) = Arrives old (done ++ r.events) end place s r.last
+Together old done end (Err x) (stopped y s) = x ≡ y
+Together old done end (Ok r) (stopped y s) = ⊥
+Together old done end (Err x) (taken place s) = ⊥
 
 -- The events of the rest stand behind the first.
 together_behind : (old : Table) (done : List Event) (end : ℕ) (e : Event) (m : Result Replayed) (n : Went) → Together old (done ++ e ∷ []) end m n →
-    Together old done end (m >>= (λ rest. ok (record { last = rest.last; events = e ∷ rest.events }))) n
-together_behind old done end e (ok r) (taken place s) t = rw (← append_assoc done (e ∷ []) r.events) t
-together_behind old done end e (refused x) (stopped y s) t = t
-together_behind old done end e (ok r) (stopped y s) t = t
-together_behind old done end e (refused x) (taken place s) t = t
+    Together old done end (m >>= (λ rest. Ok (record { last = rest.last; events = e ∷ rest.events }))) n
+together_behind old done end e (Ok r) (taken place s) t = rw (← append_assoc done (e ∷ []) r.events) t
+together_behind old done end e (Err x) (stopped y s) t = t
+together_behind old done end e (Ok r) (stopped y s) t = t
+together_behind old done end e (Err x) (taken place s) t = t
 
 module _ (P : Program) (bytes starts : List ℕ) (h : Header) (recorded : List ℕ) (old : Table) (end : ℕ) where
   abbrev Alike : Item → RunState → Replay → Result Taken → Result Left → Type 0
@@ -140,12 +139,12 @@ module _ (P : Program) (bytes starts : List ℕ) (h : Header) (recorded : List �
       Together old done' end (take_items P state' s'.progress.at items) (items_on bytes starts h recorded (length items) next s')) where
     one_more_lem : (m : Result Taken) (n : Result Left) → take_item P state s.progress.at i ≡ m → Alike i s state m n →
         Together old done end
-        (m >>= (λ taken. take_items P taken.state (s.progress.at + 1) items >>= (λ rest. ok (record {
+        (m >>= (λ taken. take_items P taken.state (s.progress.at + 1) items >>= (λ rest. Ok (record {
           last = rest.last;
           events = taken.event ∷ rest.events;
         }))))
         (go_on s n (λ l. items_on bytes starts h recorded (length items) next (after s i l)))
-    one_more_lem (ok t) (ok l) e a =
+    one_more_lem (Ok t) (Ok l) e a =
         together_behind old done end t.event (take_items P t.state (s.progress.at + 1) items)
         (items_on bytes starts h recorded (length items) next (after s i l))
         (rw (← a.counted)
@@ -156,9 +155,9 @@ module _ (P : Program) (bytes starts : List ℕ) (h : Header) (recorded : List �
               rw (a.counted, ← event_item (item_taken P state s.progress.at i e))
               (told_more old done s.progress.at s.trail t.event l.group l.access here.so_far (sym a.same_group) (sym a.same_access));
         })))
-    one_more_lem (refused x) (refused y) e a = a
-    one_more_lem (ok t) (refused y) e a = absurd a
-    one_more_lem (refused x) (ok l) e a = absurd a
+    one_more_lem (Err x) (Err y) e a = a
+    one_more_lem (Ok t) (Err y) e a = absurd a
+    one_more_lem (Err x) (Ok l) e a = absurd a
 
   -- The step's law, of an item that was read.
   module _ (loaded : Loaded bytes starts h P) where
@@ -229,9 +228,9 @@ module _ {program starts : List ℕ} {header : Header} {recorded : List ℕ} {co
       ap (λ (h : Header). all_empty m.queues.ends h.ranks h.queues) (sym same)
       ∙ sym (quiet_told P r.machine stands.holds.queues (rw same fits.ranks_fit) (rw same fits.queues_fit))
 
-  takes : (m : Result Replayed) (n : Went) → ((run : Replayed) → m ≡ ok run → length run.events ≤ max_items) → Together old [] given.end m n →
+  takes : (m : Result Replayed) (n : Went) → ((run : Replayed) → m ≡ Ok run → length run.events ≤ max_items) → Together old [] given.end m n →
       TakesAs P given.end m old (standing n).memory.cells (standing n).trail (so_far_on header n)
-  takes (ok run) (taken place s) few a =
+  takes (Ok run) (taken place s) few a =
       let stands = a.reached.stands in
       record {
         answers = rw (a.arrived, stands.opened, stands.row, quiet_is s.memory s.progress run.last stands);
@@ -239,10 +238,10 @@ module _ {program starts : List ℕ} {header : Header} {recorded : List ℕ} {co
         tells = λ run' e cleared.
             rw (← ok_injective e) (a.reached.so_far.told ∙ told_cleared old run.events (few run refl) cleared);
       }
-  takes (refused x) (stopped y s) few a =
+  takes (Err x) (stopped y s) few a =
       record { answers = rw a; leaves = λ run e. absurd (refused≢ok e); tells = λ run e cleared. absurd (refused≢ok e) }
-  takes (ok run) (stopped y s) few a = absurd a
-  takes (refused x) (taken place s) few a = absurd a
+  takes (Ok run) (stopped y s) few a = absurd a
+  takes (Err x) (taken place s) few a = absurd a
 
   pub takes_items : TakesAs P given.end result old (standing went).memory.cells (standing went).trail (so_far_on header went)
   takes_items =

@@ -3,7 +3,7 @@ use Rattle.std.specs.Prelude.{ℕ, zero, suc, List, replicate}
 use Rattle.model.specs.declared.Header.{Header}
 use Rattle.model.specs.declared.Refusal.{Refusal}
 use Rattle.model.specs.Limits.{max_ranks}
-use Rattle.model.specs.Refusals.{Result, ok, refused}
+use Rattle.model.specs.Refusals.{Result, Ok, Err}
 use Rattle.model.specs.Records.{read_item}
 use Rattle.memory.specs.Tables.{Table, zeros, registers_size}
 use Rattle.entries.specs.Entries.{pool_size}
@@ -13,8 +13,8 @@ use Rattle.items.specs.declared.rows.Progress.{Progress}
 use Rattle.machine.specs.Arrays.{Memory, memory}
 use Rattle.step.specs.Steps.{item_on}
 use Rattle.trails.specs.Trails.{told}
-use Rattle.runs.specs.declared.SoFar as SoFar
-use Rattle.runs.specs.declared.SoFar.{SoFar}
+use Rattle.machine.specs.declared.Machine.{Machine}
+use Rattle.runs.specs.declared.Reached.{Reached}
 
 -- Where the replay stands: its arrays, how far it is, and what it has told.
 pub record RunState : Type 0 where
@@ -23,8 +23,16 @@ pub record RunState : Type 0 where
   pub trail : Table
 
 -- Before the first item: over the cells at the start every rank is in state 0, registers are 0 and queues empty.
+abbrev pub idle : Machine
+idle =
+    record {
+      control = replicate max_ranks 0;
+      registers = zeros registers_size;
+      queues = record { pool = zeros pool_size; ends = zeros ends_size };
+    }
+
 abbrev pub made : (cells : Table) → Memory
-made cells = memory (replicate max_ranks 0) (zeros registers_size) cells (zeros pool_size) (zeros ends_size)
+made cells = memory idle cells
 
 abbrev pub begun : (cells trail : Table) → RunState
 begun cells trail = record { memory = made cells; progress = record { at = 0; opened = 0; row = 0 }; trail = trail }
@@ -40,8 +48,8 @@ standing (stopped r s) = s
 
 -- What a result leads to; a refusal to nothing more.
 abbrev pub go_on : {A : Type 0} → RunState → Result A → (A → Went) → Went
-go_on s (ok a) rest = rest a
-go_on s (refused r) rest = stopped r s
+go_on s (Ok a) rest = rest a
+go_on s (Err r) rest = stopped r s
 
 -- So many items from a place.
 unfoldable pub items_on : (bytes starts : List ℕ) → Header → (recorded : List ℕ) → (left place : ℕ) → RunState → Went
@@ -58,13 +66,16 @@ items_on bytes starts h recorded (suc left) place s =
     })
 
 -- What is answered of them.
+abbrev pub SoFar : Type 0
+SoFar = Result Reached
+
 abbrev pub so_far_on : Header → Went → SoFar
 so_far_on h (taken place s) =
-    SoFar.TheVariants.Taken
+    Ok
     (record {
       place = place;
       groups = s.progress.opened;
       row = s.progress.row;
       quiet = all_empty s.memory.queues.ends h.ranks h.queues;
     })
-so_far_on h (stopped r s) = SoFar.TheVariants.Refused r
+so_far_on h (stopped r s) = Err r

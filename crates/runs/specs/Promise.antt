@@ -4,7 +4,7 @@ use Rattle.std.specs.Prelude.{ℕ, ◌≤◌, ◌≡◌, List, length}
 use Rattle.model.specs.declared.Header.{Header}
 use Rattle.model.specs.declared.Item.{Item}
 use Rattle.model.specs.Limits.{max_items}
-use Rattle.model.specs.Refusals.{Result, ok, refused}
+use Rattle.model.specs.Refusals.{Result, Ok, Err}
 use Rattle.model.specs.Programs.{Program}
 use Rattle.model.specs.Machine.{Start}
 use Rattle.model.specs.Replay.{Replayed, begin, take_items, quiet}
@@ -14,9 +14,7 @@ use Rattle.memory.specs.Made.{table_of}
 use Rattle.step.specs.Standing.{Loaded}
 use Rattle.trails.specs.Trails.{trail_of, trail_size}
 use Rattle.runs.specs.declared.Reached.{Reached}
-use Rattle.runs.specs.declared.SoFar as SoFar
-use Rattle.runs.specs.declared.SoFar.{SoFar}
-use Rattle.runs.specs.Items.{Went, standing, items_on, begun, so_far_on}
+use Rattle.runs.specs.Items.{SoFar, Went, standing, items_on, begun, so_far_on}
 
 -- A program that was read, a table that holds the readings at the start, and items that were read one after the other up to a place.
 pub record Readable (program starts : List ℕ) (header : Header) (recorded : List ℕ) (count : ℕ) (cells : Table) : Type 0 where
@@ -36,14 +34,14 @@ reached_in P end run =
     record { place = end; groups = run.last.opened; row = run.last.row; quiet = quiet P run.last.machine }
 
 abbrev pub so_far_of : Program → (end : ℕ) → Result Replayed → SoFar
-so_far_of P end (ok run) = SoFar.TheVariants.Taken (reached_in P end run)
-so_far_of P end (refused r) = SoFar.TheVariants.Refused r
+so_far_of P end (Ok run) = Ok (reached_in P end run)
+so_far_of P end (Err r) = Err r
 
 -- The answer; and where all items are taken the cells after them, and in a trail that was cleared a row for each.
 pub record TakesAs (P : Program) (end : ℕ) (result : Result Replayed) (told cells trail : Table) (r : SoFar) : Type 0 where
   pub answers : r ≡ so_far_of P end result
-  pub leaves : (run : Replayed) → result ≡ ok run → cells ≡ table_of cells_size run.last.machine.cells
-  pub tells : (run : Replayed) → result ≡ ok run → told ≡ zeros trail_size → trail ≡ trail_of run.events
+  pub leaves : (run : Replayed) → result ≡ Ok run → cells ≡ table_of cells_size run.last.machine.cells
+  pub tells : (run : Replayed) → result ≡ Ok run → told ≡ zeros trail_size → trail ≡ trail_of run.events
 
 -- The items on arrays, from the start that the cells hold.
 abbrev pub went_from : (program starts : List ℕ) → Header → (recorded : List ℕ) → (count : ℕ) → (cells told : Table) → Went

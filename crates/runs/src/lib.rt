@@ -5,11 +5,11 @@ ghost use Rattle.runs.specs.Promise.{Runs};
 
 use entries::ENTRY;
 use items::rows::Progress;
-use links::ENDS;
-use machine::{Outcome, Turn};
+use links::{ENDS, Queues};
+use machine::{Machine, Turn};
 use model::{Cells, Header, ITEMS, RANKS, REGISTERS, Refusal, Starts, Trail};
 use queues::ending::all_empty;
-use record::item::{ItemRead, read_item};
+use record::item::read_item;
 use record::reader::FIRST_ITEM;
 use step::take_item;
 use trails::tell;
@@ -24,13 +24,6 @@ pub struct Reached {
     pub quiet: bool,
 }
 
-// All items taken, and how far they come; or the first refusal.
-#[derive(Clone, Copy)]
-pub enum SoFar {
-    Taken(Reached),
-    Refused(Refusal),
-}
-
 // Takes so many items of a record, from its first on and from the cells at the start; the record may go on behind them. `cells` holds the contents
 // after the last item taken, and row i of `trail` tells of item i: its rank if it is a command and else 0; its group; and its access, 0 for none and
 // else 1 + 2 * (CELLS * (rank - 1) + cell), plus 1 if it writes. The other rows stay as they were.
@@ -42,60 +35,42 @@ pub fn replay_so_far(
     count: usize,
     cells: &mut Cells,
     trail: &mut Trail,
-) -> SoFar
+) -> Result<Reached, Refusal>
     ensures { Runs program.now starts.now header recorded.now count cells.old trail.old
         cells.new trail.new result }
 {
-    let mut control = [0; RANKS];
-    let mut registers = [[0; REGISTERS]; RANKS];
-    let mut pool = [[0; ENTRY]; ITEMS];
-    let mut ends = [[0; ENDS]; RANKS];
+    let control = [0; RANKS];
+    let registers = [[0; REGISTERS]; RANKS];
+    let pool = [[0; ENTRY]; ITEMS];
+    let ends = [[0; ENDS]; RANKS];
+    let queues = Queues { pool, ends };
+    let mut machine = Machine {
+        control,
+        registers,
+        queues,
+    };
     let mut place = FIRST_ITEM;
-    let mut left = count;
     let mut progress = Progress {
         at: 0,
         opened: 0,
         row: 0,
     };
-    while left > 0 {
-        match read_item(recorded, place, header) {
-            ItemRead::Refused(refusal) => return SoFar::Refused(refusal),
-            ItemRead::Read { next, item } => {
-                let turn = Turn {
-                    header,
-                    item,
-                    progress,
-                };
-                match take_item(
-                    program,
-                    starts,
-                    turn,
-                    &mut control,
-                    &mut registers,
-                    cells,
-                    &mut pool,
-                    &mut ends,
-                ) {
-                    Outcome::Refused(refusal) => return SoFar::Refused(refusal),
-                    Outcome::Taken {
-                        next: after,
-                        group,
-                        access,
-                    } => {
-                        tell(trail, progress.at, item, group, access);
-                        progress = after;
-                        place = next;
-                    }
-                }
-            }
-        }
-        left -= 1;
+    for _ in 0..count {
+        let read = read_item(recorded, place, header)?;
+        let turn = Turn {
+            progress,
+            item: read.value,
+            header,
+        };
+        let taken = take_item(program, starts, turn, &mut machine, cells)?;
+        tell(trail, progress.at, read.value, taken.group, taken.access);
+        progress = taken.next;
+        place = read.next;
     }
-    let quiet = all_empty(&ends, header.ranks, header.queues);
-    SoFar::Taken(Reached {
+    Ok(Reached {
         place,
         groups: progress.opened,
         row: progress.row,
-        quiet,
+        quiet: all_empty(&machine.queues.ends, header.ranks, header.queues),
     })
 }

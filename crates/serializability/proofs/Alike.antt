@@ -1,13 +1,13 @@
 -- Events that differ in nothing but their group's number: what a run replayed in another order makes of each event.
+use Rattle.model.proofs.Options.{none-ne-some, some-injective}
 use Prim.Native.Nat.{ℕ, zero, suc}
 use mathlib.Core.Path.{◌≡◌, refl, ◌∙◌, ap, subst, sym, ap₂}
 use mathlib.Core.Bool.{◌&&◌}
 use mathlib.Core.List.{List, [], ◌∷◌}
-use mathlib.Core.Option.{none-ne-some, some-injective}
 use lib.Dec.{eqb}
 use Rattle.model.specs.declared.Item.{Item}
 use Rattle.model.specs.Choice.{select}
-use Rattle.model.specs.Refusals.{ok}
+use Rattle.model.specs.Refusals.{Ok}
 use Rattle.model.specs.ItemKinds.{part_of, is_command_kind}
 use Rattle.model.specs.Programs.{Program}
 use Rattle.model.specs.Replay.{Event, Replay, take_item, Taken}
@@ -44,7 +44,7 @@ all_alike_sym (more_alike a rest) = more_alike (alike_sym a) (all_alike_sym rest
 pub record TakenAs (P : Program) (s : Replay) (at : ℕ) (e : Event) (t : Replay) : Type 0 where
   pub event : Event
   pub alike : Alike e event
-  pub takes : take_item P s at e.item ≡ ok (record { state = t; event = event })
+  pub takes : take_item P s at e.item ≡ Ok (record { state = t; event = event })
 
 pub taken_as : {P : Program} {s : Replay} {at : ℕ} {e : Event} {after : Taken} → ItemTaken P s e.item after → Alike e after.event →
     TakenAs P s at e after.state
@@ -55,7 +55,7 @@ taken_to taken same =
     record {
       event = taken.event;
       alike = taken.alike;
-      takes = taken.takes ∙ ap (λ v. ok (record { state = v; event = taken.event })) same;
+      takes = taken.takes ∙ ap (λ v. Ok (record { state = v; event = taken.event })) same;
     }
 
 -- What stands at a place has its like there, and back.

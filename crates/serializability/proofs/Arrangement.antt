@@ -1,14 +1,14 @@
 -- The events of a record, group after group. The arrangement puts groups one behind another and keeps each as it is; so of any events that come
 -- group by group already, in the order's order, it changes nothing. That is all of a rank's commands, and all that happens at a cell but for reads
 -- in other groups.
+use Rattle.std.specs.Prelude.{Some, slice_get}
+use Rattle.model.proofs.Options.{none-ne-some}
 use Prim.Native.Nat.{ℕ, zero, suc, ◌<◌}
 use mathlib.Core.Path.{◌≡◌, refl, sym, ◌∙◌, ap}
 use mathlib.Core.Bool.{Bool, true, not, true≢false}
 use mathlib.Core.List.{List, [], ◌∷◌, ◌++◌}
 use mathlib.Core.Logic.{◌⊎◌, inl, inr}
-use mathlib.Core.Option.{some, none-ne-some}
 use native.Mathlib.Nat.{not-suc-le-zero, le_of_suc-le-suc, suc_inj, suc-ne-zero}
-use lib.ListN.{get_elem?}
 use borrow.Author.Tests.{eq-eqb, ne_eqb, eqb-true}
 use Rattle.model.specs.Choice.{select}
 use Rattle.model.specs.Replay.{Event}
@@ -34,14 +34,14 @@ arranged_select p (g ∷ groups) events =
 
 -- Each group at most once, and events that come by groups in that order.
 pub Distinct : List ℕ → Type 0
-Distinct groups = (i j g : ℕ) → get_elem? groups i ≡ some g → get_elem? groups j ≡ some g → i ≡ j
+Distinct groups = (i j g : ℕ) → slice_get groups i ≡ Some g → slice_get groups j ≡ Some g → i ≡ j
 
 pub record Ordered (groups : List ℕ) (events : List Event) : Type 0 where
-  pub member : (i : ℕ) (x : Event) → At events i x → (k : ℕ) × (get_elem? groups k ≡ some x.group)
+  pub member : (i : ℕ) (x : Event) → At events i x → (k : ℕ) × (slice_get groups k ≡ Some x.group)
   pub order : (i j : ℕ) (x y : Event) → At events i x → At events j y → i < j → (x.group ≡ y.group) ⊎ Precedes groups x.group y.group
 
 -- Leaving a group out does not matter to the others.
-without_group : (g : ℕ) (groups : List ℕ) (events : List Event) → ((i : ℕ) → ¬ (get_elem? groups i ≡ some g)) →
+without_group : (g : ℕ) (groups : List ℕ) (events : List Event) → ((i : ℕ) → ¬ (slice_get groups i ≡ Some g)) →
     arranged groups (select (outside g) events) ≡ arranged groups events
 unfolding arranged
 without_group g [] events h = refl
@@ -49,7 +49,7 @@ without_group g (k ∷ groups) events h =
     let other : (i : ℕ) (x : Event) → At (select (in_group k) events) i x → outside g x ≡ true =
     λ i x hx.
     let s = select_from (in_group k) events i hx in
-    ap not (ne_eqb x.group g (λ e. h 0 (ap some (sym (eqb-true x.group k s.passes) ∙ e)))) in
+    ap not (ne_eqb x.group g (λ e. h 0 (ap Some (sym (eqb-true x.group k s.passes) ∙ e)))) in
     ap (◌++ arranged groups (select (outside g) events))
     (select_commute (in_group k) (outside g) events ∙ select_all (outside g) (select (in_group k) events) other) ∙
     ap (select (in_group k) events ++◌) (without_group g groups events (λ i. h (suc i)))
@@ -58,7 +58,7 @@ without_group g (k ∷ groups) events h =
 precedes_tail : {g : ℕ} {groups : List ℕ} {x y : ℕ} → ¬ (x ≡ g) → Precedes (g ∷ groups) x y → Precedes groups x y
 precedes_tail {g} {groups} {x} {y} other (e) = go e.i e.j e.first e.second e.before
   where
-    go : (i j : ℕ) → get_elem? (g ∷ groups) i ≡ some x → get_elem? (g ∷ groups) j ≡ some y → i < j → Precedes groups x y
+    go : (i j : ℕ) → slice_get (g ∷ groups) i ≡ Some x → slice_get (g ∷ groups) j ≡ Some y → i < j → Precedes groups x y
     go zero j first second before =
         let same : g ≡ x = cc in
         absurd (other (sym same))
@@ -66,7 +66,7 @@ precedes_tail {g} {groups} {x} {y} other (e) = go e.i e.j e.first e.second e.bef
     go (suc i) (suc j) first second before =
         record { i = i; j = j; first = first; second = second; before = le_of_suc-le-suc before }
 
-member_tail : {g x : ℕ} (groups : List ℕ) → ¬ (x ≡ g) → (k : ℕ) → get_elem? (g ∷ groups) k ≡ some x → (i : ℕ) × (get_elem? groups i ≡ some x)
+member_tail : {g x : ℕ} (groups : List ℕ) → ¬ (x ≡ g) → (k : ℕ) → slice_get (g ∷ groups) k ≡ Some x → (i : ℕ) × (slice_get groups i ≡ Some x)
 member_tail {g} {x} groups other zero h =
     let same : g ≡ x = cc in
     absurd (other (sym same))
@@ -108,7 +108,7 @@ group_first g groups events distinct o =
     go : (x y : Event) → y.group ≡ g → (x.group ≡ y.group) ⊎ Precedes (g ∷ groups) x.group y.group → x.group ≡ g
     go x y hy (inl same) = same ∙ hy
     go x y hy (inr e) =
-        let zero_place : 0 ≡ e.j = distinct 0 e.j g refl (e.second ∙ ap some hy) in
+        let zero_place : 0 ≡ e.j = distinct 0 e.j g refl (e.second ∙ ap Some hy) in
         absurd (not-suc-le-zero (rw (← zero_place) at e.before))
 
 -- Events that come by groups, in the order's order, are their own arrangement.
@@ -117,7 +117,7 @@ unfolding arranged Distinct
 arranged_ordered [] [] distinct o = refl
 arranged_ordered [] (x ∷ events) distinct o = absurd (none-ne-some _ (o.member 0 x refl).1)
 arranged_ordered (g ∷ groups) events distinct o =
-    let absent : (i : ℕ) → ¬ (get_elem? groups i ≡ some g) = λ i h. suc-ne-zero i (distinct (suc i) 0 g h refl) in
+    let absent : (i : ℕ) → ¬ (slice_get groups i ≡ Some g) = λ i h. suc-ne-zero i (distinct (suc i) 0 g h refl) in
     ap (select (in_group g) events ++◌)
     (sym (without_group g groups events absent) ∙
     arranged_ordered groups (select (outside g) events) (λ i j k hi hj. suc_inj (distinct (suc i) (suc j) k hi hj))

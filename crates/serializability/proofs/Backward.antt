@@ -2,16 +2,16 @@
 -- An edge puts a counterpart before a counterpart, by program order since both runs take the same transitions, by conflict since they have the same
 -- trace; group numbers never fall along a serial run; and they are not equal, or the edge would stay inside one group. Nothing here looks at
 -- values.
+use Rattle.std.specs.Prelude.{Some, slice_get}
+use Rattle.model.proofs.Options.{none-ne-some}
 use Prim.Native.Nat.{ℕ, ◌<◌}
 use mathlib.Core.Path.{◌≡◌, refl, sym, ◌∙◌, ap}
 use mathlib.Core.Bool.{Bool, true, ◌&&◌}
 use mathlib.Core.List.{List, [], ◌∷◌}
 use mathlib.Core.Logic.{◌⊎◌, inl, inr}
-use mathlib.Core.Option.{some, none-ne-some}
 use native.Mathlib.Nat.{eq-or-lt_of_le}
 use native.Mathlib.Omega.{arith}
 use lib.Dec.{eqb}
-use lib.ListN.{get_elem?}
 use borrow.Author.Tests.{eq-eqb, eqb-true}
 use Rattle.model.specs.declared.Item.{Item}
 use Rattle.model.specs.Choice.{select}
@@ -49,7 +49,7 @@ pub placement : (events others : List Event) → ℕ → ℕ
 placement events others g = counterpart_group others (select (in_group g) events)
 
 -- A list with a member has a first one.
-first_of : {A : Type 0} (l : List A) (k : ℕ) {x : A} → get_elem? l k ≡ some x → (y : A) × (rest : List A) × (l ≡ y ∷ rest)
+first_of : {A : Type 0} (l : List A) (k : ℕ) {x : A} → slice_get l k ≡ Some x → (y : A) × (rest : List A) × (l ≡ y ∷ rest)
 first_of [] k h = absurd (none-ne-some _ h)
 first_of (y ∷ l) k h = (y, l, refl)
 
@@ -65,7 +65,7 @@ module _ {P : Program} {start start' : Start} {items items' : List Item} {run ru
       true_and (command_of rank d) (eqb d.place place)
       (true_and (is_command d) (eqb (rank_of d) rank) cd (eq-eqb (rank_of d) rank er)) (eq-eqb d.place place ep) in
       let first = first_of (select test run'.events) _ (select_at test run'.events j ad passes) in
-      let s = select_from test run'.events 0 {x = first.0} (ap (λ l. get_elem? l 0) first.2) in
+      let s = select_from test run'.events 0 {x = first.0} (ap (λ l. slice_get l 0) first.2) in
       let outer = and-true (command_of rank first.0) (eqb first.0.place place) s.passes in
       let inner = and-true (is_command first.0) (eqb (rank_of first.0) rank) outer.0 in
       ap group_of_first first.2 ∙
@@ -90,7 +90,7 @@ module _ {P : Program} {start start' : Start} {items items' : List Item} {run ru
       let g : ℕ = w.x.group in
       let passes : in_group g w.x ≡ true = eq-eqb w.x.group g refl in
       let first = first_of (select (in_group g) run.events) _ (select_at (in_group g) run.events w.i w.first passes) in
-      let s = select_from (in_group g) run.events 0 {x = first.0} (ap (λ l. get_elem? l 0) first.2) in
+      let s = select_from (in_group g) run.events 0 {x = first.0} (ap (λ l. slice_get l 0) first.2) in
       ap (counterpart_group run'.events) first.2 ∙ told_by s.i first.0 s.at w (eqb-true first.0.group g s.passes)
 
   -- Commands of one rank come in the same order in both runs.

@@ -1,11 +1,11 @@
 -- In a serial run the groups stand one behind another. Each transfer is followed at once by its own fetch and its own delivery: the fetch right
 -- behind it belongs to an earlier transfer or to this one, and every earlier transfer has its own fetch right behind it already. So along the run
 -- the group numbers never fall.
+use Rattle.model.proofs.Options.{none-ne-some, some-injective}
 use Prim.Native.Nat.{ℕ, zero, suc, ◌<◌, ◌≤◌}
 use mathlib.Core.Path.{◌≡◌, refl, sym, ◌∙◌, ap, subst}
 use mathlib.Core.Bool.{Bool, true, false, ◌&&◌, true≢false, false≢true}
 use mathlib.Core.List.{List, [], ◌∷◌}
-use mathlib.Core.Option.{none-ne-some, some-injective}
 use native.Mathlib.Nat.{not-suc-le-zero, suc_inj, le_of_eq}
 use native.Mathlib.Omega.{arith}
 use lib.Dec.{eqb}

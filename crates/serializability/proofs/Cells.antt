@@ -1,8 +1,8 @@
 -- What a cell holds after some events depends on the writes to it alone: of the events only those at the cell matter.
+use Rattle.std.specs.Prelude.{Option, Some, None}
 use mathlib.Core.Path.{◌≡◌, refl, sym, ◌∙◌}
 use mathlib.Core.Bool.{Bool, true, false, ◌&&◌, true≢false}
 use mathlib.Core.List.{List, [], ◌∷◌}
-use mathlib.Core.Option.{Option, some, none}
 use lib.Dec.{eqb}
 use Rattle.model.specs.declared.Address.{Address}
 use Rattle.model.specs.Choice.{when, select}
@@ -15,15 +15,15 @@ use Rattle.record_facts.specs.Facts.{written, cells_after}
 
 -- An access writes the cell at this address.
 unfoldable pub writes_to : Address → Option Access → Bool
-writes_to a none = false
-writes_to a (some b) = same_address a b.address && b.writes
+writes_to a None = false
+writes_to a (Some b) = same_address a b.address && b.writes
 
 -- Else it leaves that cell as it is.
 pub written_elsewhere : (cells : Start) (x : Option Access) (a : Address) → writes_to a x ≡ false →
     written cells x a.rank a.cell ≡ cells a.rank a.cell
 unfolding writes_to written
-written_elsewhere cells none a h = refl
-written_elsewhere cells (some b) a h =
+written_elsewhere cells None a h = refl
+written_elsewhere cells (Some b) a h =
     decided b.writes
     (λ w. rw (w, when)
     (put₂_other cells b.address.rank b.address.cell b.value a.rank a.cell
@@ -35,8 +35,8 @@ written_elsewhere cells (some b) a h =
 pub written_agree : (cells others : Start) (x : Option Access) (a : Address) → cells a.rank a.cell ≡ others a.rank a.cell →
     written cells x a.rank a.cell ≡ written others x a.rank a.cell
 unfolding written put₂
-written_agree cells others none a h = h
-written_agree cells others (some b) a h =
+written_agree cells others None a h = h
+written_agree cells others (Some b) a h =
     decided b.writes
     (λ w. rw (w, when)
     (decided (eqb a.rank b.address.rank && eqb a.cell b.address.cell) (λ t. rw (t, when)) (λ t. rw (t, when) h)))

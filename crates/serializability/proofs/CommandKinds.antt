@@ -1,12 +1,13 @@
 -- What a rank's transitions tell of its commands: the kind of each, and how many bars it has before each. So two runs with the same transitions
 -- agree on these.
+use Rattle.std.specs.Prelude.{Option, Some, None, slice_get}
+use Rattle.model.proofs.Options.{some-injective}
 use Prim.Native.Nat.{ℕ, suc}
 use mathlib.Core.Path.{◌≡◌, refl, sym, ◌∙◌, ap}
 use mathlib.Core.Bool.{Bool, true, false, true≢false}
 use mathlib.Core.List.{List, [], ◌∷◌, map}
-use mathlib.Core.Option.{Option, some, none, some-injective}
 use lib.Dec.{eqb}
-use lib.ListN.{length, take, get_elem?}
+use lib.ListN.{length, take}
 use Rattle.model.specs.declared.Item.{Item}
 use Rattle.model.specs.declared.Kind.TheVariants.{Bar}
 use Rattle.model.specs.Choice.{select}
@@ -20,23 +21,23 @@ use Rattle.model.specs.Lists.{◌∈◌}
 use Rattle.model.proofs.Lists.{at_position}
 use Rattle.model.proofs.Selections.{select_yes, select_no, select_at, select_take}
 use Rattle.model.proofs.ItemKinds.{same_kind_true, command_part}
-use Rattle.model.proofs.Laws.{decided, and-true, true_and, get_elem?_map, get_elem?_taken, take_map}
+use Rattle.model.proofs.Laws.{decided, and-true, true_and, slice_get_map, slice_get_taken, take_map}
 use Rattle.record_facts.specs.Facts.{Facts, bars_of, count_of, bar_of}
 use Rattle.serializability.proofs.Projections.{command_of_true}
 use Rattle.serializability.proofs.Groups.{kind_command}
 
 -- A transition that is a bar's.
 bar_transition_of : Option Transition → Bool
-bar_transition_of none = false
-bar_transition_of (some t) = is_bar (kind_of t.command)
+bar_transition_of None = false
+bar_transition_of (Some t) = is_bar (kind_of t.command)
 
 pub bar_transition : Program → ℕ → Bool
-bar_transition P t = bar_transition_of (get_elem? P.transitions t)
+bar_transition P t = bar_transition_of (slice_get P.transitions t)
 
 module _ {P : Program} {start : Start} {items : List Item} {run : Replayed} (f : Facts P start items run) where
   -- A command's kind is its transition's.
   kind_taken : (i : ℕ) (e : Event) → At run.events i e → is_command e ≡ true →
-      (t : Transition) × (get_elem? P.transitions e.item.transition ≡ some t) × (kind_of t.command ≡ e.item.kind)
+      (t : Transition) × (slice_get P.transitions e.item.transition ≡ Some t) × (kind_of t.command ≡ e.item.kind)
   kind_taken i e at c =
       let s = f.local_step i e at c in
       (s.transition, s.taken, s.kind)
@@ -92,16 +93,16 @@ module _ {P : Program} {start : Start} {items : List Item} {run : Replayed} (f :
       bars_of (rank_of e) (take i run.events) ≡
       length (select (bar_transition P) (take e.place (transitions_of (rank_of e) run.events)))
   bars_before i e at c =
-      bars_selected P (rank_of e) (take i run.events) (λ j x ax. bar_transition_lem f j x (get_elem?_taken run.events i j ax).0) ∙
+      bars_selected P (rank_of e) (take i run.events) (λ j x ax. bar_transition_lem f j x (slice_get_taken run.events i j ax).0) ∙
       ap (λ l. length (select (bar_transition P) l))
       (transitions_take (rank_of e) run.events i ∙ ap (λ n. take n (transitions_of (rank_of e) run.events)) (sym (f.place_of i e at c)))
 
   -- A command's transition stands at its place.
   pub transition_at : (i : ℕ) (e : Event) → At run.events i e → is_command e ≡ true →
-      get_elem? (transitions_of (rank_of e) run.events) e.place ≡ some e.item.transition
+      slice_get (transitions_of (rank_of e) run.events) e.place ≡ Some e.item.transition
   transition_at i e at c =
-      ap (get_elem? (transitions_of (rank_of e) run.events)) (f.place_of i e at c) ∙
-      get_elem?_map (λ x. x.item.transition) (select (command_of (rank_of e)) run.events) _
+      ap (slice_get (transitions_of (rank_of e) run.events)) (f.place_of i e at c) ∙
+      slice_get_map (λ x. x.item.transition) (select (command_of (rank_of e)) run.events) _
       (select_at (command_of (rank_of e)) run.events i at (command_of_true e c))
 
 -- An event of one run, and the event of the same identity in another.
@@ -142,14 +143,14 @@ module _ {P : Program} {start start' : Start} {items items' : List Item} {run ru
   same_transition =
       some-injective _ _
       (sym (transition_at f w.i w.x w.first c) ∙
-      ap (λ l. get_elem? l w.x.place) (same (rank_of w.x)) ∙
-      ap (λ r. get_elem? (transitions_of r run'.events) w.x.place) w.same.rank ∙
-      ap (get_elem? (transitions_of (rank_of w.y) run'.events)) w.same.place ∙
+      ap (λ l. slice_get l w.x.place) (same (rank_of w.x)) ∙
+      ap (λ r. slice_get (transitions_of r run'.events) w.x.place) w.same.rank ∙
+      ap (slice_get (transitions_of (rank_of w.y) run'.events)) w.same.place ∙
       transition_at f' w.j w.y w.second (twin_command w c))
 
   pub same_kinds : w.x.item.kind ≡ w.y.item.kind
   same_kinds =
       let sx = kind_taken f w.i w.x w.first c in
       let sy = kind_taken f' w.j w.y w.second (twin_command w c) in
-      let one : sx.0 ≡ sy.0 = some-injective _ _ (sym sx.1 ∙ ap (get_elem? P.transitions) same_transition ∙ sy.1) in
+      let one : sx.0 ≡ sy.0 = some-injective _ _ (sym sx.1 ∙ ap (slice_get P.transitions) same_transition ∙ sy.1) in
       sym sx.2 ∙ ap (λ t. kind_of t.command) one ∙ sy.2

@@ -22,7 +22,7 @@ use Rattle.model.specs.Lists.{◌∈◌}
 use Rattle.model.proofs.Lists.{at_position}
 use Rattle.model.proofs.Selections.{select_from, Selected}
 use Rattle.model.proofs.ItemKinds.{transfer_command, command_part}
-use Rattle.model.proofs.Laws.{and-true, get_elem?_mapped}
+use Rattle.model.proofs.Laws.{and-true, slice_get_mapped}
 use Rattle.record_facts.specs.Facts.{Facts, PopOf, count_of}
 use Rattle.serializability.proofs.Groups.{kind_command, Together, fetched, delivered, passed_on, met}
 use Rattle.serializability.proofs.Identity.{compared, Issued, Known, commanded, fetching, delivering, Completed, Commander, together, known, completed, command_unique, at_unique, commander}
@@ -49,7 +49,7 @@ module _ {P : Program} {start start' : Start} {items items' : List Item} {run ru
   command_counterpart : (i : ℕ) (x : Event) → At run.events i x → is_command x ≡ true → Counterpart run'.events x
   command_counterpart i x ax cx =
       let r : ℕ = rank_of x in
-      let there = get_elem?_mapped (λ e. e.item.transition) (select (command_of r) run'.events) x.place
+      let there = slice_get_mapped (λ e. e.item.transition) (select (command_of r) run'.events) x.place
       (rw (same r) at (transition_at f i x ax cx)) in
       let y : Event = there.0 in
       let s : Selected (command_of r) run'.events x.place y = select_from (command_of r) run'.events x.place there.1 in

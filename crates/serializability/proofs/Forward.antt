@@ -1,18 +1,18 @@
 -- An order of the groups along the dependences is a serial run. Arranged in that order the record's events have the record's projections; so every
 -- command stands at its turn, every read finds the write that it found in the record, and the simulation replays them. Trace, values and last
 -- contents are then the record's.
+use Rattle.std.specs.Prelude.{Some, slice_get}
 use Prim.Native.Nat.{ℕ, suc, ◌<◌}
 use mathlib.Core.Path.{◌≡◌, refl, sym, ◌∙◌, ap, subst, fun_ext}
 use mathlib.Core.Bool.{Bool, true}
 use mathlib.Core.List.{List, [], ◌∷◌, map}
 use mathlib.Core.Logic.{◌↔◌}
-use mathlib.Core.Option.{some}
 use native.Mathlib.Omega.{arith}
 use lib.Dec.{eqb}
-use lib.ListN.{length, get_elem?}
+use lib.ListN.{length}
 use borrow.Author.Tests.{eq-eqb}
 use Rattle.model.specs.declared.Item.{Item}
-use Rattle.model.specs.Refusals.{ok, ◌>>=◌}
+use Rattle.model.specs.Refusals.{Ok, ◌>>=◌}
 use Rattle.model.specs.Choice.{numbers_from, select, Each, all, one}
 use Rattle.model.specs.Programs.{Program}
 use Rattle.model.specs.Machine.{State, Start, initial, address}
@@ -22,7 +22,7 @@ use Rattle.model.specs.Traces.{transitions_of, Identified, cell_of, value_at, Sa
 use Rattle.model.specs.Checks.{order_items, arranged}
 use Rattle.model.specs.Lists.{Precedes, ◌∈◌}
 use Rattle.model.proofs.Lists.{position, at_position}
-use Rattle.model.proofs.Laws.{get_elem?_map, each_at}
+use Rattle.model.proofs.Laws.{slice_get_map, each_at}
 use Rattle.record_facts.specs.Facts.{Facts, count_of, cells_after}
 use Rattle.serializability.specs.Orders.{Forward}
 use Rattle.serializability.specs.Claim.{Serialization}
@@ -71,7 +71,7 @@ module _ {P : Program} {start : Start} {items : List Item} {run : Replayed} (f :
             f.reads m.0 e a m.1 is reads ∙ m.2;
       }
 
-  grouped : (gs : List ℕ) → ((i g : ℕ) → get_elem? gs i ≡ some g → g < run.last.opened) → Grouped P f.local (arranged gs run.events)
+  grouped : (gs : List ℕ) → ((i g : ℕ) → slice_get gs i ≡ Some g → g < run.last.opened) → Grouped P f.local (arranged gs run.events)
   unfolding arranged
   grouped [] bounded = no_group
   grouped (g ∷ gs) bounded =
@@ -96,7 +96,7 @@ module _ {P : Program} {start : Start} {items : List Item} {run : Replayed} (f :
   pub serial_run : Replayed
   serial_run = simulated.run
 
-  finished : (count : ℕ) → at_end P count serial_run ≡ ok serial_run
+  finished : (count : ℕ) → at_end P count serial_run ≡ Ok serial_run
   unfolding at_end serial_run
   finished count =
       let closed : eqb serial_run.last.row 0 ≡ true = eq-eqb serial_run.last.row 0 (ap (λ s. s.row) simulated.ends) in
@@ -105,7 +105,7 @@ module _ {P : Program} {start : Start} {items : List Item} {run : Replayed} (f :
       let silent : quiet P serial_run.last.machine ≡ true = quiet_standing P serial_run.last.machine requests deliveries in
       rw closed (rw silent refl)
 
-  pub serial_replayed : replay P start (order_items groups run.events) ≡ ok serial_run
+  pub serial_replayed : replay P start (order_items groups run.events) ≡ Ok serial_run
   unfolding replay serial_run
   serial_replayed =
       ap (λ m. m >>= at_end P (length (order_items groups run.events)))
@@ -118,7 +118,7 @@ module _ {P : Program} {start : Start} {items : List Item} {run : Replayed} (f :
   all_in_record each [] member = all
   all_in_record each (e ∷ events) member =
       let m = member 0 e refl in
-      one (each_at items each m.0 (rw f.items_of at (get_elem?_map (λ x. x.item) run.events m.0 m.1)))
+      one (each_at items each m.0 (rw f.items_of at (slice_get_map (λ x. x.item) run.events m.0 m.1)))
       (all_in_record each events (λ i. member (suc i)))
 
   pub is_serial : Each (InRecord P.header) items → SerialRun P start (order_items groups run.events) serial_run

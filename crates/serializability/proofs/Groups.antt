@@ -1,13 +1,13 @@
 -- What stands in one group, told from its shape: a command alone, a transfer before its fetch before its delivery, or bars of rising ranks. Hence
 -- each event has its command in its group, and no two events of a record have one identity.
+use Rattle.std.specs.Prelude.{Some, slice_get}
+use Rattle.model.proofs.Options.{none-ne-some, some-injective}
 use Prim.Native.Nat.{ℕ, zero, suc, ◌+◌, ◌<◌}
 use mathlib.Core.Path.{◌≡◌, refl, sym, ◌∙◌, ap, subst}
 use mathlib.Core.Bool.{true, false, true≢false}
 use mathlib.Core.List.{List, [], ◌∷◌}
-use mathlib.Core.Option.{some, none-ne-some, some-injective}
 use native.Mathlib.Nat.{not-suc-le-zero, le_of_suc-le-suc, lt_irrefl}
 use native.Mathlib.Omega.{arith}
-use lib.ListN.{get_elem?}
 use Rattle.model.specs.declared.Kind.{Kind}
 use Rattle.model.specs.declared.Kind.TheVariants.{Popa, Popb, Bar}
 use Rattle.model.specs.Choice.{numbers_from}
@@ -15,7 +15,7 @@ use Rattle.model.specs.ItemKinds.{is_transfer, is_command_kind}
 use Rattle.model.specs.Programs.{Program}
 use Rattle.model.specs.Replay.{Event}
 use Rattle.model.specs.HappensBefore.{At, is_command, rank_of}
-use Rattle.model.proofs.Laws.{get_elem?_map, each_at}
+use Rattle.model.proofs.Laws.{slice_get_map, each_at}
 use Rattle.model.proofs.ItemKinds.{transfer_command}
 use Rattle.record_facts.specs.Facts.{Shape, single, transfer, row, PopOf, TransferOf, Local}
 
@@ -30,7 +30,7 @@ pub data Role (l : List Event) (k : ℕ) (x : Event) : Type 0 where
   delivers : (e : Event) → At l 0 e → k ≡ 2 → is_transfer e.item.kind ≡ true → PopOf Popb e x → Role l k x
 
 -- The k-th number from the first.
-at_numbers : (first count k : ℕ) {n : ℕ} → get_elem? (numbers_from first count) k ≡ some n → n ≡ first + k
+at_numbers : (first count k : ℕ) {n : ℕ} → slice_get (numbers_from first count) k ≡ Some n → n ≡ first + k
 unfolding numbers_from
 at_numbers first zero k h = absurd (none-ne-some _ h)
 at_numbers first (suc count) zero {n} h =
@@ -55,11 +55,11 @@ pub data Together (x y : Event) : Type 0 where
   met : x.item.kind ≡ Bar → y.item.kind ≡ Bar → rank_of x < rank_of y → Together x y
 
 -- Events that stand at places are the events there.
-both : {x y x' y' : Event} → some x ≡ some x' → some y ≡ some y' → Together x y → Together x' y'
+both : {x y x' y' : Event} → Some x ≡ Some x' → Some y ≡ Some y' → Together x y → Together x' y'
 both {x} {y} {x'} {y'} p q t =
     subst (λ z. Together x' z) (some-injective y y' q) (subst (λ z. Together z y) (some-injective x x' p) t)
 
-not_transfer : {x y : Event} → some x ≡ some y → is_transfer x.item.kind ≡ false → ¬ (is_transfer y.item.kind ≡ true)
+not_transfer : {x y : Event} → Some x ≡ Some y → is_transfer x.item.kind ≡ false → ¬ (is_transfer y.item.kind ≡ true)
 not_transfer {x} {y} h t ty = true≢false (sym ty ∙ ap (λ z. is_transfer z.item.kind) (sym (some-injective x y h)) ∙ t)
 
 -- A transfer with its pops.
@@ -115,6 +115,6 @@ module _ {P : Program} {local : ℕ → ℕ → Local} where
   shape_together (single e c t b) k (suc m) hx hy before = absurd (none-ne-some _ hy)
   shape_together (transfer e a b whole) k m hx hy before = three_together e a b whole k m hx hy before
   shape_together (row bars kinds ranks) k m {x} {y} hx hy before =
-      let rank_x : rank_of x ≡ 1 + k = at_numbers 1 P.header.ranks k (rw ranks at (get_elem?_map rank_of bars k hx)) in
-      let rank_y : rank_of y ≡ 1 + m = at_numbers 1 P.header.ranks m (rw ranks at (get_elem?_map rank_of bars m hy)) in
+      let rank_x : rank_of x ≡ 1 + k = at_numbers 1 P.header.ranks k (rw ranks at (slice_get_map rank_of bars k hx)) in
+      let rank_y : rank_of y ≡ 1 + m = at_numbers 1 P.header.ranks m (rw ranks at (slice_get_map rank_of bars m hy)) in
       met (each_at bars kinds k hx) (each_at bars kinds m hy) (omega (arith, rank_x, rank_y, before))

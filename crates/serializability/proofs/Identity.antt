@@ -1,14 +1,15 @@
 -- The groups and identities of an accepted record. Each event has in its group the command that it is known by; two commands of a rank have
 -- different places, and a transfer has one fetch and one delivery; so an identity names one event.
+use Rattle.std.specs.Prelude.{slice_get}
+use Rattle.model.proofs.Options.{some-injective}
 use Prim.Native.Nat.{ℕ, ◌<◌}
 use mathlib.Core.Path.{◌≡◌, refl, sym, ◌∙◌, ap}
 use mathlib.Core.Bool.{true, false, true≢false}
 use mathlib.Core.List.{List}
-use mathlib.Core.Option.{some-injective}
 use native.Mathlib.Nat.{lt_irrefl}
 use native.Mathlib.Omega.{arith}
 use lib.Dec.{ltb}
-use lib.ListN.{length, take, get_elem?}
+use lib.ListN.{length, take}
 use borrow.Author.Tests.{eq-eqb, eqb-true, ltb-true, ltb-false}
 use Rattle.model.specs.declared.Item.{Item}
 use Rattle.model.specs.declared.Kind.{Kind}
@@ -176,7 +177,7 @@ module _ {P : Program} {start : Start} {items : List Item} {run : Replayed} (f :
 
   -- The events at one place are one.
   pub at_unique : {i j : ℕ} {x y : Event} → At run.events i x → At run.events j y → i ≡ j → x ≡ y
-  at_unique {i} {j} {x} {y} ax ay e = some-injective x y (sym ax ∙ ap (get_elem? run.events) e ∙ ay)
+  at_unique {i} {j} {x} {y} ax ay e = some-injective x y (sym ax ∙ ap (slice_get run.events) e ∙ ay)
 
   -- Of two commands of a rank the one with the lower place stands first.
   pub place_order : (i j : ℕ) {x y : Event} → At run.events i x → At run.events j y → is_command x ≡ true → is_command y ≡ true →

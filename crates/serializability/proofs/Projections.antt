@@ -1,12 +1,12 @@
 -- The projections of a run that its trace is made of: each rank's commands, and at each cell all writes with the reads of one group. Lists of
 -- events with the same projections have the same places, the same last writes before each read, the same last contents, and conflicting accesses in
 -- the same order.
+use Rattle.std.specs.Prelude.{Option, Some, None}
 use Prim.Native.Nat.{ℕ, ◌<◌}
 use mathlib.Core.Path.{◌≡◌, refl, sym, ◌∙◌, ap}
 use mathlib.Core.Bool.{Bool, true, false, ◌&&◌, ◌||◌, true≢false, false≢true}
 use mathlib.Core.List.{List, map}
 use mathlib.Core.Logic.{◌⊎◌, inl, inr}
-use mathlib.Core.Option.{Option, some, none}
 use lib.Dec.{eqb}
 use lib.ListN.{length, take}
 use borrow.Author.Tests.{eq-eqb, eqb-true}
@@ -33,8 +33,8 @@ command_of_true e c = true_and (is_command e) (eqb (rank_of e) (rank_of e)) c (e
 
 -- An access of the cell at this address that writes, or is one's own.
 unfoldable pub touches : Address → (own : Bool) → Option Access → Bool
-touches a own none = false
-touches a own (some b) = same_address a b.address && (b.writes || own)
+touches a own None = false
+touches a own (Some b) = same_address a b.address && (b.writes || own)
 
 -- The events at an address that write, or are of this group.
 abbrev pub touching : Address → (group : ℕ) → Event → Bool
@@ -43,8 +43,8 @@ touching a g e = touches a (in_group g e) e.access
 -- A write touches its address whoever looks.
 pub touches_writes : (a : Address) (own : Bool) (x : Option Access) → writes_to a x ≡ true → touches a own x ≡ true
 unfolding touches writes_to
-touches_writes a own none h = h
-touches_writes a own (some b) h =
+touches_writes a own None h = h
+touches_writes a own (Some b) h =
     let both = and-true (same_address a b.address) b.writes h in
     true_and (same_address a b.address) (b.writes || own) both.0 (rw both.1)
 
@@ -53,7 +53,7 @@ or_right true h = refl
 or_right false h = h
 
 -- An access touches its own address, with its own group.
-pub touches_own : (e : Event) (a : Access) → e.access ≡ some a → touching a.address e.group e ≡ true
+pub touches_own : (e : Event) (a : Access) → e.access ≡ Some a → touching a.address e.group e ≡ true
 unfolding touches
 touches_own e a is =
     rw (is, touches)
@@ -64,9 +64,9 @@ touches_own e a is =
 pub touches_conflict : (a : Address) (own other : Bool) (x y : Option Access) → touches a own x ≡ true → touches a other y ≡ true →
     (conflict x y ≡ true) ⊎ ((own ≡ true) × (other ≡ true))
 unfolding touches conflict
-touches_conflict a own other none y hx hy = absurd (false≢true hx)
-touches_conflict a own other (some b) none hx hy = absurd (false≢true hy)
-touches_conflict a own other (some b) (some c) hx hy =
+touches_conflict a own other None y hx hy = absurd (false≢true hx)
+touches_conflict a own other (Some b) None hx hy = absurd (false≢true hy)
+touches_conflict a own other (Some b) (Some c) hx hy =
     let tx = and-true (same_address a b.address) (b.writes || own) hx in
     let ty = and-true (same_address a c.address) (c.writes || other) hy in
     let same =
@@ -100,9 +100,9 @@ touching_tied a g x y px py = go (touches_conflict a (in_group g x) (in_group g 
 touches_both : (x y : Event) (b c : Option Access) → x.access ≡ b → y.access ≡ c → conflict b c ≡ true →
     (a : Address) × (g : ℕ) × (touching a g x ≡ true) × (touching a g y ≡ true)
 unfolding touches conflict
-touches_both x y none c eb ec h = absurd (false≢true h)
-touches_both x y (some b) none eb ec h = absurd (false≢true h)
-touches_both x y (some b) (some c) eb ec h =
+touches_both x y None c eb ec h = absurd (false≢true h)
+touches_both x y (Some b) None eb ec h = absurd (false≢true h)
+touches_both x y (Some b) (Some c) eb ec h =
     let both = and-true (same_address b.address c.address) (either_writes b c) h in
     let own : same_address b.address b.address ≡ true = true_same_address b.address b.address refl in
     decided b.writes

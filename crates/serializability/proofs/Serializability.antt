@@ -11,7 +11,7 @@ use mathlib.Core.List.{List}
 use mathlib.Core.Logic.{⊎_elim}
 use native.Mathlib.Omega.{arith}
 use Rattle.model.specs.declared.Item.{Item}
-use Rattle.model.specs.Refusals.{ok}
+use Rattle.model.specs.Refusals.{Ok}
 use Rattle.model.specs.Choice.{Each}
 use Rattle.model.specs.Programs.{Program}
 use Rattle.model.specs.Machine.{Start}
@@ -56,7 +56,7 @@ verdict_no_numbering {run = run} f cycle is number rises =
 
 -- An accepted record: its items as a record has them, taken by the replay.
 module _ {P : Program} {start : Start} {items : List Item} {run : Replayed} (in_record : Each (InRecord P.header) items)
-    (accepted : replay P start items ≡ ok run) where
+    (accepted : replay P start items ≡ Ok run) where
   -- The order half.
   order_serializes : (groups : List ℕ) → verdict_on run ≡ ordered groups →
       (run' : Replayed) × Serialization P start run (order_items groups run.events) run'

@@ -1,26 +1,27 @@
 -- Events that come in blocks, each a group's, in which every command stands at its turn and every read finds what was last written, are what a
 -- serial run makes of their items. The replay goes block by block: before each no row is open, all queues are empty, and the state is what the
 -- events so far tell.
+use Rattle.model.specs.declared.Action.TheVariants.{Issues}
+use Rattle.std.specs.Prelude.{Some, slice_get}
 use Prim.Native.Nat.{ℕ, zero, suc, ◌+◌}
 use mathlib.Core.Path.{◌≡◌, refl, sym, ◌∙◌, ap, ap₂, subst, subst⁻¹}
 use mathlib.Core.Bool.{true, false, ◌&&◌}
 use mathlib.Core.List.{List, [], ◌∷◌, ◌++◌, map, head-eq_of_cons-eq, tail-eq_of_cons-eq, nil≢cons, cons≢nil, append-nil}
-use mathlib.Core.Option.{some}
 use native.Mathlib.Nat.{zero-add}
 use native.Mathlib.Omega.{arith}
 use lib.Dec.{eqb}
-use lib.ListN.{length, take, get_elem?}
+use lib.ListN.{length, take}
 use lib.Seq.{append_snoc, take-append_seam}
 use borrow.Author.Tests.{eq-eqb}
 use Rattle.model.specs.declared.Address.{Address}
 use Rattle.model.specs.declared.Item.{Item}
 use Rattle.model.specs.declared.Kind.{Kind}
 use Rattle.model.specs.declared.Kind.TheVariants.{Popa, Popb, Bar}
-use Rattle.model.specs.Refusals.{ok, ◌>>=◌}
+use Rattle.model.specs.Refusals.{Ok, ◌>>=◌}
 use Rattle.model.specs.Choice.{when, numbers_from, Each, all, one}
 use Rattle.model.specs.ItemKinds.{kind_number, same_kind, is_bar, is_transfer}
 use Rattle.model.specs.Programs.{Program, Transition, kind_of}
-use Rattle.model.specs.Machine.{Start, Access, issues, action}
+use Rattle.model.specs.Machine.{Start, Access, action}
 use Rattle.model.specs.Replay.{Event, Origin, Replay, Replayed, Taken, row_allows, row_after, group_of, opened_after, agrees_with, take_item, take_items}
 use Rattle.model.specs.HappensBefore.{At, is_command, rank_of}
 use Rattle.model.specs.Traces.{is_pop, followed_at_once, transfers_together}
@@ -42,7 +43,7 @@ pub record Schedule (P : Program) (start : Start) (local : ℕ → ℕ → Local
   pub steps : (i : ℕ) (e : Event) → At events i e → is_command e ≡ true →
       CommandStep P (local (rank_of e) e.place) e (local (rank_of e) (suc e.place))
   pub places : (i : ℕ) (e : Event) → At events i e → is_command e ≡ true → e.place ≡ count_of (rank_of e) (take i events)
-  pub reads : (i : ℕ) (e : Event) (a : Access) → At events i e → e.access ≡ some a → a.writes ≡ false →
+  pub reads : (i : ℕ) (e : Event) (a : Access) → At events i e → e.access ≡ Some a → a.writes ≡ false →
       a.value ≡ cells_after start (take i events) a.address.rank a.address.cell
 
 -- Groups one behind another.
@@ -51,24 +52,24 @@ pub data Grouped (P : Program) (local : ℕ → ℕ → Local) : List Event → 
   one_group : {group rest : List Event} → Shape P local group → Grouped P local rest → Grouped P local (group ++ rest)
 
 -- What a transfer's command asks for.
-abbrev Issues : Program → (ℕ → ℕ → Local) → Event → (remote : ℕ) → (source destination : Address) → Type 0
-Issues P local e remote source destination =
-    (at : ℕ) (t : Transition) → get_elem? P.transitions e.item.transition ≡ some t →
-    action P (rank_of e) (local (rank_of e) e.place).registers at t.command ≡ ok (issues e.queue remote source destination)
+abbrev Issuing : Program → (ℕ → ℕ → Local) → Event → (remote : ℕ) → (source destination : Address) → Type 0
+Issuing P local e remote source destination =
+    (at : ℕ) (t : Transition) → slice_get P.transitions e.item.transition ≡ Some t →
+    action P (rank_of e) (local (rank_of e) e.place).registers at t.command ≡ Ok (Issues e.queue remote source destination)
 
 -- The items, and one item taken before others.
 abbrev items_of : List Event → List Item
 items_of = map (λ e. e.item)
 
-take_cons : (P : Program) (s : Replay) (at : ℕ) (i : Item) (items : List Item) (t : Taken) (r : Replayed) → take_item P s at i ≡ ok t →
-    take_items P t.state (at + 1) items ≡ ok r → take_items P s at (i ∷ items) ≡ ok (record { last = r.last; events = t.event ∷ r.events })
+take_cons : (P : Program) (s : Replay) (at : ℕ) (i : Item) (items : List Item) (t : Taken) (r : Replayed) → take_item P s at i ≡ Ok t →
+    take_items P t.state (at + 1) items ≡ Ok r → take_items P s at (i ∷ items) ≡ Ok (record { last = r.last; events = t.event ∷ r.events })
 unfolding take_items
 take_cons P s at i items t r first later =
     ap
-    (λ m. m >>= λ taken. take_items P taken.state (at + 1) items >>= λ rest. ok
+    (λ m. m >>= λ taken. take_items P taken.state (at + 1) items >>= λ rest. Ok
     (record { last = rest.last; events = taken.event ∷ rest.events }))
     first ∙
-    ap (λ m. m >>= λ rest. ok (record { last = rest.last; events = t.event ∷ rest.events })) later
+    ap (λ m. m >>= λ rest. Ok (record { last = rest.last; events = t.event ∷ rest.events })) later
 
 -- The event of a pop is a pop of the event of its transfer.
 pop_alike : (k : Kind) {e e' p p' : Event} → PopOf k e p → Alike e e' → Alike p p' → is_pop k e' p' ≡ true
@@ -87,7 +88,7 @@ module _ (P : Program) (start : Start) (local : ℕ → ℕ → Local) (whole : 
   -- The rest of the events taken from a state, up to the state that all of them tell.
   pub record Simulated (s : Replay) (at : ℕ) (rest : List Event) : Type 0 where
     pub run : Replayed
-    pub takes : take_items P s at (items_of rest) ≡ ok run
+    pub takes : take_items P s at (items_of rest) ≡ Ok run
     pub alike : AllAlike rest run.events
     pub together : transfers_together run.events ≡ true
     pub opened : ℕ
@@ -142,7 +143,7 @@ module _ (P : Program) (start : Start) (local : ℕ → ℕ → Local) (whole : 
     -- The event that comes next, and its facts.
     module _ (done : List Event) (e : Event) (rest : List Event) (split : whole ≡ done ++ e ∷ rest) where
       here : At whole (length done) e
-      here = ap (λ l. get_elem? l (length done)) split ∙ split_at done e rest
+      here = ap (λ l. slice_get l (length done)) split ∙ split_at done e rest
 
       before : take (length done) whole ≡ done
       before = ap (take (length done)) split ∙ take-append_seam done (e ∷ rest)
@@ -153,7 +154,7 @@ module _ (P : Program) (start : Start) (local : ℕ → ℕ → Local) (whole : 
       agreed : agrees_with e.item e.access ≡ true
       agreed = schedule.agrees (length done) e here
 
-      finds : (a : Access) → e.access ≡ some a → a.writes ≡ false → a.value ≡ cells_after start done a.address.rank a.address.cell
+      finds : (a : Access) → e.access ≡ Some a → a.writes ≡ false → a.value ≡ cells_after start done a.address.rank a.address.cell
       finds a is reads =
           schedule.reads (length done) e a here is reads ∙ ap (λ l. cells_after start l a.address.rank a.address.cell) before
 
@@ -188,7 +189,7 @@ module _ (P : Program) (start : Start) (local : ℕ → ℕ → Local) (whole : 
           (asking opened) no_requests))
 
       -- A transfer's command leaves its request, alone in the queues.
-      issued : (remote : ℕ) (source destination : Address) → is_transfer e.item.kind ≡ true → Issues P local e remote source destination →
+      issued : (remote : ℕ) (source destination : Address) → is_transfer e.item.kind ≡ true → Issuing P local e remote source destination →
           (opened at : ℕ) →
           TakenAs P (idle done opened 0) at e
           (standing start local (done ++ e ∷ []) (opened_after opened e.item) 0
@@ -198,7 +199,7 @@ module _ (P : Program) (start : Start) (local : ℕ → ℕ → Local) (whole : 
           let c : is_command e ≡ true = transfer_command e.item.kind t in
           let no_bar : is_bar e.item.kind ≡ false = transfer_no_bar e.item.kind t in
           let step = stepped c in
-          let asks : step.act ≡ issues e.queue remote source destination =
+          let asks : step.act ≡ Issues e.queue remote source destination =
           ok_injective (sym (step.acts 0) ∙ acts 0 step.transition step.taken) in
           taken_to (command_next c opened 0 at (allowed_outside e.item no_bar))
           (ap₂ (λ k act. standing start local (done ++ e ∷ []) (opened_after opened e.item) k (requests_after (rank_of e)

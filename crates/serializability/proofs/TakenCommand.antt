@@ -1,16 +1,17 @@
 -- One command, taken where its rank stands. What a command does depends on its rank's local state and on what it loads; so from a state that the
 -- events so far tell, a command at its turn is taken, with the record's access, into the state that the events with it tell.
+use Rattle.model.specs.declared.Action.TheVariants.{Loads, Stores, Assigns, Passes, Issues, Meets}
+use Rattle.std.specs.Prelude.{Option, Some}
 use Prim.Native.Nat.{ℕ, suc}
 use mathlib.Core.Path.{◌≡◌, refl, sym, ◌∙◌, ap, fun_ext}
 use mathlib.Core.Bool.{true, false, true≢false}
 use mathlib.Core.List.{List, [], ◌∷◌, ◌++◌}
-use mathlib.Core.Option.{Option, some}
 use native.Mathlib.Numerals.{add-one}
 use lib.Dec.{eqb}
 use borrow.Author.Tests.{eqb-true}
 use Rattle.model.specs.ItemKinds.{is_transfer, part_of}
 use Rattle.model.specs.Programs.{Program, kind_of, Command}
-use Rattle.model.specs.Machine.{State, Start, Access, read_of, address, put, put₂, move_to, set_register, set_cell, set_requests, Action, loads, stores, assigns, passes, issues, meets, action}
+use Rattle.model.specs.Machine.{State, Start, Access, read_of, address, put, put₂, move_to, set_register, set_cell, set_requests, Action, action}
 use Rattle.model.specs.Replay.{Event, Origin, Replay, row_allows, row_after, group_of, opened_after, agrees_with, access_of, perform, agreed, after_command}
 use Rattle.model.specs.HappensBefore.{is_command, rank_of}
 use Rattle.model.proofs.ItemKinds.{command_part}
@@ -23,12 +24,12 @@ use Rattle.serializability.proofs.Standing.{Requests, Deliveries, standing, repl
 
 -- What an action reads; 0 if nothing.
 value_read : (rank : ℕ) → Action → (ℕ → ℕ → ℕ) → ℕ
-value_read rank (loads x a) cells = cells rank a
-value_read rank (stores a v) cells = 0
-value_read rank (assigns x v) cells = 0
-value_read rank passes cells = 0
-value_read rank (issues q remote source destination) cells = 0
-value_read rank meets cells = 0
+value_read rank (Loads x a) cells = cells rank a
+value_read rank (Stores a v) cells = 0
+value_read rank (Assigns x v) cells = 0
+value_read rank Passes cells = 0
+value_read rank (Issues q remote source destination) cells = 0
+value_read rank Meets cells = 0
 
 -- A register of one rank changed: that rank's registers with it changed.
 put₂_put : {A : Type 0} (f : ℕ → ℕ → A) (rank index : ℕ) (v : A) → put₂ f rank index v ≡ put f rank (put (f rank) index v)
@@ -47,14 +48,14 @@ put_own f i = fun_ext (λ j. decided (eqb j i) (λ t. rw t (ap f (eqb-true j i t
 
 -- The requests after an action.
 unfoldable pub requests_after : (rank : ℕ) → Origin → Action → Requests → Requests
-requests_after rank origin (loads x a) requests = requests
-requests_after rank origin (stores a v) requests = requests
-requests_after rank origin (assigns x v) requests = requests
-requests_after rank origin passes requests = requests
-requests_after rank origin (issues q remote source destination) requests =
+requests_after rank origin (Loads x a) requests = requests
+requests_after rank origin (Stores a v) requests = requests
+requests_after rank origin (Assigns x v) requests = requests
+requests_after rank origin Passes requests = requests
+requests_after rank origin (Issues q remote source destination) requests =
     put₂ requests rank q
     (requests rank q ++ record { remote = remote; source = source; destination = destination; mark = origin } ∷ [])
-requests_after rank origin meets requests = requests
+requests_after rank origin Meets requests = requests
 
 -- What an action does to the parts of the machine: its rank's registers, the cell that it writes, the queue that it asks in.
 record Performed (rank : ℕ) (origin : Origin) (a : Action) (s : State Origin) : Type 0 where
@@ -66,7 +67,7 @@ record Performed (rank : ℕ) (origin : Origin) (a : Action) (s : State Origin) 
 
 performed : (rank : ℕ) (origin : Origin) (a : Action) (s : State Origin) → Performed rank origin a s
 unfolding perform set_register set_cell set_requests registers_after value_read written access_of requests_after
-performed rank origin (loads x a) s =
+performed rank origin (Loads x a) s =
     record {
       control = refl;
       registers = put₂_put s.registers rank x (s.cells rank a);
@@ -74,15 +75,15 @@ performed rank origin (loads x a) s =
       requests = refl;
       deliveries = refl;
     }
-performed rank origin (stores a v) s =
+performed rank origin (Stores a v) s =
     record { control = refl; registers = put_own s.registers rank; cells = refl; requests = refl; deliveries = refl }
-performed rank origin (assigns x v) s =
+performed rank origin (Assigns x v) s =
     record { control = refl; registers = put₂_put s.registers rank x v; cells = refl; requests = refl; deliveries = refl }
-performed rank origin passes s =
+performed rank origin Passes s =
     record { control = refl; registers = put_own s.registers rank; cells = refl; requests = refl; deliveries = refl }
-performed rank origin (issues q remote source destination) s =
+performed rank origin (Issues q remote source destination) s =
     record { control = refl; registers = put_own s.registers rank; cells = refl; requests = refl; deliveries = refl }
-performed rank origin meets s =
+performed rank origin Meets s =
     record { control = refl; registers = put_own s.registers rank; cells = refl; requests = refl; deliveries = refl }
 
 -- A load that read what the cell holds reads it again.
@@ -91,26 +92,26 @@ record Reread (rank : ℕ) (act : Action) (value : ℕ) (cells : ℕ → ℕ →
   same_registers : (registers : ℕ → ℕ) → registers_after act (value_read rank act cells) registers ≡ registers_after act value registers
 
 reread : (rank : ℕ) (act : Action) (value : ℕ) (cells : ℕ → ℕ → ℕ) (access : Option Access) → access ≡ access_of rank act (λ r c. value) →
-    ((a : Access) → access ≡ some a → a.writes ≡ false → a.value ≡ cells a.address.rank a.address.cell) →
+    ((a : Access) → access ≡ Some a → a.writes ≡ false → a.value ≡ cells a.address.rank a.address.cell) →
     Reread rank act value cells access
 unfolding access_of registers_after value_read
-reread rank (loads x a) value cells access is finds =
+reread rank (Loads x a) value cells access is finds =
     let found : value ≡ cells rank a = finds (record { writes = false; address = address rank a; value = value }) is refl in
     record {
       same_access_lem = ap (λ v. read_of (address rank a) v) (sym found) ∙ sym is;
       same_registers = λ registers. ap (put registers x) (sym found);
     }
-reread rank (stores a v) value cells access is finds = record { same_access_lem = sym is; same_registers = λ registers. refl }
-reread rank (assigns x v) value cells access is finds = record { same_access_lem = sym is; same_registers = λ registers. refl }
-reread rank passes value cells access is finds = record { same_access_lem = sym is; same_registers = λ registers. refl }
-reread rank (issues q remote source destination) value cells access is finds = record { same_access_lem = sym is; same_registers = λ registers. refl }
-reread rank meets value cells access is finds = record { same_access_lem = sym is; same_registers = λ registers. refl }
+reread rank (Stores a v) value cells access is finds = record { same_access_lem = sym is; same_registers = λ registers. refl }
+reread rank (Assigns x v) value cells access is finds = record { same_access_lem = sym is; same_registers = λ registers. refl }
+reread rank Passes value cells access is finds = record { same_access_lem = sym is; same_registers = λ registers. refl }
+reread rank (Issues q remote source destination) value cells access is finds = record { same_access_lem = sym is; same_registers = λ registers. refl }
+reread rank Meets value cells access is finds = record { same_access_lem = sym is; same_registers = λ registers. refl }
 
 -- A command taken where the events so far stand.
 module _ {P : Program} (start : Start) (local : ℕ → ℕ → Local) (done : List Event) (opened row : ℕ) (requests : Requests) (deliveries : Deliveries)
     (e : Event) (c : is_command e ≡ true) (step : CommandStep P (local (rank_of e) e.place) e (local (rank_of e) (suc e.place)))
     (place : e.place ≡ count_of (rank_of e) done)
-    (finds : (a : Access) → e.access ≡ some a → a.writes ≡ false → a.value ≡ cells_after start done a.address.rank a.address.cell) where
+    (finds : (a : Access) → e.access ≡ Some a → a.writes ≡ false → a.value ≡ cells_after start done a.address.rank a.address.cell) where
   -- Who asks, if the command asks for anything.
   abbrev origin : Origin
   origin = record { place = count_of (rank_of e) done; group = group_of opened e.item }

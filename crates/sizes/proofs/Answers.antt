@@ -8,7 +8,7 @@ use native.Mathlib.Omega.{arith}
 use lib.ListN.{length}
 use borrow.Author.Tests.{le-leb}
 use Rattle.model.specs.Limits.{max_ranks, max_cells, max_items}
-use Rattle.model.specs.Refusals.{Result, ok, refused}
+use Rattle.model.specs.Refusals.{Result, Ok, Err}
 use Rattle.model.specs.Checks.{Accepted, Verdicts, accept, check_result_in, check_result, outcome, outcome_bytes, check_in, check, check_bytes_in, check_bytes}
 use Rattle.record_facts.proofs.Bounds.{accepted_bounds}
 use Rattle.sizes.specs.Texts.{answer_of, result_of}
@@ -16,8 +16,8 @@ use Rattle.sizes.specs.Texts.{answer_of, result_of}
 module _ (program start recorded : List ℕ) (groups cells : ℕ) (long : max_items ≤ groups) (wide : max_ranks * max_cells ≤ cells) where
   result_is : (m : Result Accepted) → accept program start recorded ≡ m → check_result program start recorded groups cells ≡ result_of m
   unfolding check_result_in
-  result_is (refused r) h = rw h
-  result_is (ok a) h =
+  result_is (Err r) h = rw h
+  result_is (Ok a) h =
       let b = accepted_bounds program start recorded a h in
       let few : a.run.last.opened ≤ groups = omega (arith, b.bounds.most, b.few) in
       let narrow : a.program.header.ranks * a.program.header.cells ≤ cells =
@@ -31,13 +31,13 @@ module _ (program start recorded order cells : List ℕ) where
 
   answers_alike : (m : Result Accepted) {r : Result Verdicts} → r ≡ result_of m → (outcome order cells r).answer ≡ answer_of m
   unfolding outcome
-  answers_alike (refused x) is = rw is
-  answers_alike (ok a) is = rw is
+  answers_alike (Err x) is = rw is
+  answers_alike (Ok a) is = rw is
 
   answers_alike_bytes : (m : Result Accepted) {r : Result Verdicts} → r ≡ result_of m → (outcome_bytes order cells r).answer ≡ answer_of m
   unfolding outcome_bytes
-  answers_alike_bytes (refused x) is = rw is
-  answers_alike_bytes (ok a) is = rw is
+  answers_alike_bytes (Err x) is = rw is
+  answers_alike_bytes (Ok a) is = rw is
 
   pub check_answers : max_items ≤ length order → max_ranks * max_cells ≤ length cells →
       (check program start recorded order cells).answer ≡ answer_of accepted

@@ -1,16 +1,16 @@
 -- The constants of a program that was read from bytes fit sixteen bits, by a rule for each way in which readers are put together; so what its
 -- expressions come to fits too, since an operator has no value outside the range.
+use Rattle.std.specs.Prelude.{Option, Some, None}
 use Prim.Native.Nat.{ℕ, zero, suc, ◌+◌, ◌*◌, ◌<◌}
 use mathlib.Core.Path.{◌≡◌, subst}
 use mathlib.Core.Bool.{Bool, true, false}
 use mathlib.Core.List.{List}
-use mathlib.Core.Option.{Option, some, none}
 use native.Mathlib.Omega.{arith}
 use lib.Dec.{ltb, leb, eqb}
 use borrow.Author.Tests.{ltb-true}
 use Rattle.model.specs.declared.Header.{Header}
 use Rattle.model.specs.Limits.{max_tokens, word_values}
-use Rattle.model.specs.Refusals.{ok, program_length, program_range, program_form}
+use Rattle.model.specs.Refusals.{Ok, program_length, program_range, program_form}
 use Rattle.model.specs.Choice.{bit, lookup, Each, all, one}
 use Rattle.model.specs.Bytes.{AreBytes, Reader, ◌>>=◌, here, fault, byte, judged, optional}
 use Rattle.model.specs.Expressions.{Operator, sum, difference, product, equal, less, truth, in_range, operate, operated, evaluate}
@@ -38,21 +38,21 @@ truth_fits false = omega arith
 
 -- What is there, if anything, fits.
 abbrev ThereFits : Option ℕ → Type 0
-ThereFits (some v) = v < word_values
-ThereFits none = Unit {0}
+ThereFits (Some v) = v < word_values
+ThereFits None = Unit {0}
 
 range_fits : (n : ℕ) → ThereFits (in_range n)
 range_fits n = decided (ltb n word_values) (λ t. rw t (ltb-true n word_values t)) (λ t. rw t tt)
 
 operated_fits : (o : Operator) (a b : Option ℕ) → ThereFits a → ThereFits (operated o a b)
 unfolding operated operate
-operated_fits sum (some a) (some b) fits = range_fits (a + b)
-operated_fits difference (some a) (some b) fits = decided (leb b a) (λ t. rw t (omega (arith, fits))) (λ t. rw t tt)
-operated_fits product (some a) (some b) fits = range_fits (a * b)
-operated_fits equal (some a) (some b) fits = truth_fits (eqb a b)
-operated_fits less (some a) (some b) fits = truth_fits (ltb a b)
-operated_fits o (some a) none fits = tt
-operated_fits o none b fits = tt
+operated_fits sum (Some a) (Some b) fits = range_fits (a + b)
+operated_fits difference (Some a) (Some b) fits = decided (leb b a) (λ t. rw t (omega (arith, fits))) (λ t. rw t tt)
+operated_fits product (Some a) (Some b) fits = range_fits (a * b)
+operated_fits equal (Some a) (Some b) fits = truth_fits (eqb a b)
+operated_fits less (Some a) (Some b) fits = truth_fits (ltb a b)
+operated_fits o (Some a) None fits = tt
+operated_fits o None b fits = tt
 
 module _ (ranks rank : ℕ) (registers : ℕ → ℕ) (few : ranks < word_values) (low : rank < word_values)
     (held : (i : ℕ) → registers i < word_values) where
@@ -64,7 +64,7 @@ module _ (ranks rank : ℕ) (registers : ℕ → ℕ) (few : ranks < word_values
   there_fits rank_count fits = few
   there_fits (apply o a b) fits = operated_fits o (evaluate ranks rank registers a) (evaluate ranks rank registers b) (there_fits a fits.0)
 
-  pub evaluate_fits : (e : Expression) → ConstantsFit e → {v : ℕ} → evaluate ranks rank registers e ≡ some v → v < word_values
+  pub evaluate_fits : (e : Expression) → ConstantsFit e → {v : ℕ} → evaluate ranks rank registers e ≡ Some v → v < word_values
   evaluate_fits e fits h = subst ThereFits h (there_fits e fits)
 
 -- A command whose value, if it has one, has such constants; and a row of the table that makes such commands.
@@ -98,14 +98,14 @@ module _ (bytes : List ℕ) (bound : AreBytes bytes) where
     token_finds : {operand : ℕ → Reader Counted} → ((left : ℕ) → FindsFitting (operand left)) → (left at : ℕ) (token : Option Token) →
         FindsFitting (on_token registers operand left at token)
     unfolding on_token after_token ConstantsFit
-    token_finds operands left at (some constant_token) = finds_bind (finds_word program_length) λ value below. finds_pure _ (below bound)
-    token_finds operands left at (some register_token) =
+    token_finds operands left at (Some constant_token) = finds_bind (finds_word program_length) λ value below. finds_pure _ (below bound)
+    token_finds operands left at (Some register_token) =
         finds_bind (finds_anything (judged (λ i. ltb i registers) program_range (byte program_length))) λ index _. finds_pure _ tt
-    token_finds operands left at (some own_rank_token) = finds_pure _ tt
-    token_finds operands left at (some rank_count_token) = finds_pure _ tt
-    token_finds operands left at (some (operator_token o)) =
+    token_finds operands left at (Some own_rank_token) = finds_pure _ tt
+    token_finds operands left at (Some rank_count_token) = finds_pure _ tt
+    token_finds operands left at (Some (operator_token o)) =
         finds_bind (operands left) λ a first. finds_bind (operands a.left) λ b second. finds_pure _ (first, second)
-    token_finds operands left at none = finds_fault program_form at
+    token_finds operands left at None = finds_fault program_form at
 
     tokens_find : (depth left : ℕ) → FindsFitting (read_expression registers depth left)
     unfolding read_expression
@@ -135,7 +135,7 @@ module _ (bytes : List ℕ) (bound : AreBytes bytes) where
     abbrev FormFinds : Option CommandForm → Type 0
     FormFinds form = Finds bytes (judged_form at map form) FormFits
 
-    form_finds : (form : CommandForm) → FormFits form → FormFinds (some form)
+    form_finds : (form : CommandForm) → FormFits form → FormFinds (Some form)
     unfolding judged_form
     form_finds form fits = decided (eqb map form.map) (λ t. rw t (finds_pure form fits)) (λ t. rw t (finds_fault program_form at))
 
@@ -166,7 +166,7 @@ module _ (bytes : List ℕ) (bound : AreBytes bytes) where
       finds_pure _ (fits fields constants.0 constants.1)
 
   -- So every value of a command of a program that was read.
-  pub values_fit : {P : Program} → read_program bytes ≡ ok P → Each (λ t. ValueFits t.command) P.transitions
+  pub values_fit : {P : Program} → read_program bytes ≡ Ok P → Each (λ t. ValueFits t.command) P.transitions
   unfolding read_program_in program_reader_in
   values_fit =
       whole_finds program_length program_reader bytes (λ P. Each (λ t. ValueFits t.command) P.transitions)

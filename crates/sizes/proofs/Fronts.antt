@@ -1,5 +1,6 @@
 -- The front of a file is enough: a program, readings and a record of which one byte more than the longest readable ones is read are read, or refused,
 -- as their whole bytes are, and so the listing is the same.
+use Rattle.std.specs.Prelude.{None}
 use Prim.Native.Nat.{ℕ, suc, ◌+◌, ◌*◌, ◌≤◌}
 use mathlib.Core.Path.{◌≡◌, refl, ap}
 use mathlib.Core.Bool.{Bool, true, false, ◌&&◌}
@@ -8,9 +9,7 @@ use native.Mathlib.Omega.{arith}
 use lib.Dec.{ltb, leb, eqb}
 use lib.ListN.{take}
 use borrow.Author.Tests.{leb-true}
-use Rattle.model.specs.declared.Given.TheVariants.{Absent}
 use Rattle.model.specs.declared.Header.{Header}
-use Rattle.model.specs.declared.ItemForm.{ItemForm}
 use Rattle.model.specs.declared.Kind.{Kind}
 use Rattle.model.specs.Limits.{max_transition_bytes, short_transitions, max_transitions, long_count, max_items, byte_values}
 use Rattle.model.specs.Refusals.{program_length, program_range, record_length, record_range, record_form}
@@ -19,7 +18,7 @@ use Rattle.model.specs.Bytes.{word, judged, optional}
 use Rattle.model.specs.Programs.{count_byte, transition_count, read_header_in, read_header, program_reader_in, program_reader, read_program_in, read_program}
 use Rattle.model.specs.ItemKinds.{item_kinds}
 use Rattle.model.specs.Formats.{HasMap, item_maps}
-use Rattle.model.specs.ItemForms.{FormIs, good, unknown_kind, wrong_map, judged_item_form}
+use Rattle.model.specs.ItemForms.{FormIs, good, unknown_kind, wrong_map, judged_item_form, ItemForm}
 use Rattle.model.specs.Records.{field, low_byte, high_byte, given_value, item_fields, read_item_in, read_item, record_reader_in, record_reader, read_record_in, read_record}
 use Rattle.model.specs.Replay.{every}
 use Rattle.model.specs.Checks.{accept_in, accept}
@@ -129,7 +128,7 @@ item_fields_take header map kind =
     takes_bind (takes_optional (bit 2 map) 0 1 (field_takes (λ q. ltb q header.queues) _ (omega arith))) λ queue.
     takes_bind (takes_optional (bit 3 map) 0 1 (field_takes (between 1 header.ranks) _ (omega arith))) λ place_rank_lem.
     takes_bind (takes_optional (bit 4 map) 0 2 (cell_takes header.cells _ (omega arith))) λ place_cell_lem.
-    takes_bind (takes_optional (bit 5 map) Absent 2 (given_takes _ (omega arith))) λ given.
+    takes_bind (takes_optional (bit 5 map) None 2 (given_takes _ (omega arith))) λ given.
     takes_bind (takes_optional (bit 6 map) 0 1 (field_takes (between 1 header.ranks) _ (omega arith))) λ remote.
     takes_bind (takes_optional (bit 7 map) low 1 (high_takes header.transitions low _ (omega arith))) λ transition.
     takes_pure _ (omega arith)

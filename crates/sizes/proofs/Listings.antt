@@ -8,7 +8,7 @@ use lib.ListN.{length, length-append}
 use borrow.Author.Tests.{le-leb}
 use Rattle.model.specs.declared.Header.{Header}
 use Rattle.model.specs.Limits.{max_items, word_values}
-use Rattle.model.specs.Refusals.{Result, ok, refused}
+use Rattle.model.specs.Refusals.{Result, Ok, Err}
 use Rattle.model.specs.Bytes.{AreBytes}
 use Rattle.model.specs.Orders.{Verdict}
 use Rattle.model.specs.Checks.{Accepted, accept, verdict_on, listed, rank_by_rank, fill}
@@ -54,8 +54,8 @@ module _ (a : Accepted) (b : AcceptedBounds a) where
 -- What is printed of a program and a record.
 module _ (program start recorded : List ℕ) (bound : AreBytes program) where
   acceptance_short : (m : Result Accepted) → accept program start recorded ≡ m → length (text_of m) ≤ max_listing_bytes
-  acceptance_short (refused r) h = omega (arith, refused_line_short r (refusal_fits program start recorded r h))
-  acceptance_short (ok a) h =
+  acceptance_short (Err r) h = omega (arith, refused_line_short r (refusal_fits program start recorded r h))
+  acceptance_short (Ok a) h =
       listing_short a (accepted_bounds program start recorded a h) (cells_fit program start recorded bound h)
 
   pub text_short : length (text_of (accept program start recorded)) ≤ max_listing_bytes
@@ -66,8 +66,8 @@ printed_whole : (memory : List ℕ) (m : Result Accepted) → length (text_of m)
     printed_of memory m ≡
     record { result = record { answer = answer_of m; length = length (text_of m) }; memory = fill (text_of m) memory }
 unfolding printed_of printed
-printed_whole memory (refused r) fits = rw (le-leb _ _ fits)
-printed_whole memory (ok a) fits = rw (le-leb _ _ fits)
+printed_whole memory (Err r) fits = rw (le-leb _ _ fits)
+printed_whole memory (Ok a) fits = rw (le-leb _ _ fits)
 
 -- So is every listing where the lent bytes are as many as the longest one has: none is refused for want of bytes.
 pub listing_whole : (program start recorded memory : List ℕ) → AreBytes program → max_listing_bytes ≤ length memory →

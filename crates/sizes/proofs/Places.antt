@@ -1,11 +1,11 @@
 -- The replay places its refusals at an item, or behind the last one.
+use Rattle.std.specs.Prelude.{Option, Some, None, slice_get}
 use Prim.Native.Nat.{ℕ, ◌+◌}
 use mathlib.Core.Bool.{Bool, ◌&&◌}
 use mathlib.Core.List.{List, [], ◌∷◌}
-use mathlib.Core.Option.{Option, some, none}
 use native.Mathlib.Omega.{arith}
 use lib.Dec.{ltb, eqb}
-use lib.ListN.{length, get_elem?}
+use lib.ListN.{length}
 use Rattle.model.specs.declared.Item.{Item}
 use Rattle.model.specs.Refusals.{wrong_transition, operand_range, assume_fails, empty_queue, access_differs, barrier_row, queues_left, no_value}
 use Rattle.model.specs.Choice.{between}
@@ -63,8 +63,8 @@ module _ (P : Program) (at : ℕ) where
   module _ (s : Replay) (i : Item) where
     transition_placed : (t : Option Transition) → Placed at (take_transition P s at i t)
     unfolding take_transition
-    transition_placed none = placed_refuse wrong_transition at (omega arith)
-    transition_placed (some t) =
+    transition_placed None = placed_refuse wrong_transition at (omega arith)
+    transition_placed (Some t) =
         let fits : Bool = eqb t.source (s.machine.control i.rank) && same_kind (kind_of t.command) i.kind in
         placed_bind (placed_require fits wrong_transition at) λ _ _.
         placed_bind (action_placed i.rank (s.machine.registers i.rank) t.command) λ a _.
@@ -72,17 +72,17 @@ module _ (P : Program) (at : ℕ) where
 
     fetch_placed : (o : Option (Request Origin × List (Request Origin))) → Placed at (take_fetch s at i o)
     unfolding take_fetch
-    fetch_placed none = placed_refuse empty_queue at (omega arith)
-    fetch_placed (some (a, rest)) = agreed_placed (after_fetch s i a rest)
+    fetch_placed None = placed_refuse empty_queue at (omega arith)
+    fetch_placed (Some (a, rest)) = agreed_placed (after_fetch s i a rest)
 
     delivery_placed : (o : Option (Delivery Origin × List (Delivery Origin))) → Placed at (take_delivery s at i o)
     unfolding take_delivery
-    delivery_placed none = placed_refuse empty_queue at (omega arith)
-    delivery_placed (some (b, rest)) = agreed_placed (after_delivery s i b rest)
+    delivery_placed None = placed_refuse empty_queue at (omega arith)
+    delivery_placed (Some (b, rest)) = agreed_placed (after_delivery s i b rest)
 
     part_placed : (p : Part) → Placed at (take_part P s at i p)
     unfolding take_part
-    part_placed command = transition_placed (get_elem? P.transitions i.transition)
+    part_placed command = transition_placed (slice_get P.transitions i.transition)
     part_placed fetch = fetch_placed (oldest (request_for i) (s.machine.requests i.rank i.queue))
     part_placed delivery = delivery_placed (oldest (delivery_for i) (s.machine.deliveries i.rank i.queue))
 

@@ -10,7 +10,7 @@ use lib.ListN.{get_or, take}
 use Rattle.model.specs.declared.Header.{Header}
 use Rattle.model.specs.Limits.{map_size, max_ranks, max_cells, max_value, word_values}
 use Rattle.model.specs.Refusals as Refusals
-use Rattle.model.specs.Refusals.{ok, start_form}
+use Rattle.model.specs.Refusals.{Ok, start_form}
 use Rattle.model.specs.Choice.{bit, between, numbers_from, Each, all, one}
 use Rattle.model.specs.Bytes.{big_endian, word, judged, optional, whole}
 use Rattle.model.specs.Marked.{read_marked}
@@ -74,7 +74,7 @@ module _ (header : Header) (fits : HeaderFits header) where
   unfolding read_start
   the_same_start [] = refl
   the_same_start (first ∷ rest) =
-      ap (λ m. Refusals.◌>>=◌ m (λ readings. ok (start_of readings))) (whole_of_start start_form max_start_bytes start_takes (first ∷ rest))
+      ap (λ m. Refusals.◌>>=◌ m (λ readings. Ok (start_of readings))) (whole_of_start start_form max_start_bytes start_takes (first ∷ rest))
 
   pub start_placed : (start : List ℕ) → Placed max_start_bytes (read_start header start)
   unfolding read_start
@@ -113,7 +113,7 @@ unfolding start_of
 start_fits readings fit zero cell = omega arith
 start_fits readings fit (suc row) cell = each_get 0 (each_get [] fit all row) (omega arith) cell
 
-pub readings_fit : (header : Header) (start : List ℕ) {readings : Start} → read_start header start ≡ ok readings → (rank cell : ℕ) → Fits (readings rank cell)
+pub readings_fit : (header : Header) (start : List ℕ) {readings : Start} → read_start header start ≡ Ok readings → (rank cell : ℕ) → Fits (readings rank cell)
 unfolding read_start start_reader zero_start
 readings_fit header [] h rank cell = rw (← (ok_injective h)) (omega arith)
 readings_fit header (first ∷ rest) h rank cell =

@@ -9,7 +9,7 @@ use lib.Dec.{eqb}
 use borrow.Author.Tests.{eqb-true}
 use Rattle.model.specs.declared.Header.{Header}
 use Rattle.model.specs.declared.Refusal.{Refusal}
-use Rattle.model.specs.Refusals.{refused, program_length, record_length, memory_too_short, no_value, start_form}
+use Rattle.model.specs.Refusals.{Err, program_length, record_length, memory_too_short, no_value, start_form}
 use Rattle.model.specs.Choice.{between}
 use Rattle.model.specs.Programs.{read_program_in, read_program}
 use Rattle.model.specs.Records.{read_record_in, read_record}
@@ -58,7 +58,7 @@ module _ (program start recorded : List ℕ) where
       placed_bind (placed_later (omega (arith, read_few P.header recorded read)) (replay_placed P readings items)) λ run _.
       placed_ok _
 
-  pub refusal_fits : (r : Refusal) → accept program start recorded ≡ refused r → RefusalFits r
+  pub refusal_fits : (r : Refusal) → accept program start recorded ≡ Err r → RefusalFits r
   unfolding check_result_in
   refusal_fits r h =
       record {

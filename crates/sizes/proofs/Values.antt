@@ -1,5 +1,6 @@
 -- Every value that an accepted run holds fits sixteen bits, since the readings at its start do: a command stores or assigns what an expression comes to,
 -- and all else that the replay does is to carry values from cells to registers, to deliveries and back.
+use Rattle.model.specs.declared.Action.TheVariants.{Loads, Stores, Assigns, Passes, Issues, Meets}
 use Prim.Native.Nat.{ℕ, ◌+◌, ◌<◌}
 use mathlib.Core.Path.{◌≡◌}
 use mathlib.Core.List.{List, [], ◌∷◌}
@@ -8,11 +9,11 @@ use lib.Dec.{eqb}
 use lib.ListN.{length}
 use Rattle.model.specs.declared.Item.{Item}
 use Rattle.model.specs.Limits.{word_values}
-use Rattle.model.specs.Refusals.{ok, barrier_row, queues_left}
+use Rattle.model.specs.Refusals.{Ok, barrier_row, queues_left}
 use Rattle.model.specs.Choice.{Each, all, one}
 use Rattle.model.specs.Bytes.{AreBytes}
 use Rattle.model.specs.Programs.{Program, Command}
-use Rattle.model.specs.Machine.{State, Delivery, Action, loads, stores, assigns, passes, issues, meets, value_of}
+use Rattle.model.specs.Machine.{State, Delivery, Action, value_of}
 use Rattle.model.specs.Machine.{Start, initial, move_to, set_register, set_cell, set_requests, set_deliveries}
 use Rattle.model.specs.Replay.{Origin, Replay, Taken, Replayed, perform, take_item, take_items, begin, quiet, at_end, replay}
 use Rattle.model.specs.Checks.{Accepted, accept}
@@ -41,38 +42,38 @@ record Small (s : State Origin) : Type 0 where
 
 -- What an action writes.
 abbrev ActionFits : Action → Type 0
-ActionFits (loads x a) = Unit {0}
-ActionFits (stores a v) = Fits v
-ActionFits (assigns x v) = Fits v
-ActionFits passes = Unit {0}
-ActionFits (issues q remote source destination) = Unit {0}
-ActionFits meets = Unit {0}
+ActionFits (Loads x a) = Unit {0}
+ActionFits (Stores a v) = Fits v
+ActionFits (Assigns x v) = Fits v
+ActionFits Passes = Unit {0}
+ActionFits (Issues q remote source destination) = Unit {0}
+ActionFits Meets = Unit {0}
 
 module _ (rank : ℕ) (origin : Origin) (s : State Origin) (small : Small s) where
   performed : (a : Action) → ActionFits a → Small (perform rank origin a s)
   unfolding perform set_register set_cell set_requests
-  performed (loads x a) fits =
+  performed (Loads x a) fits =
       record {
         registers = put₂_holds Fits s.registers rank x (small.cells rank a) small.registers;
         cells = small.cells;
         deliveries = small.deliveries;
       }
-  performed (stores a v) fits =
+  performed (Stores a v) fits =
       record {
         registers = small.registers;
         cells = put₂_holds Fits s.cells rank a fits small.cells;
         deliveries = small.deliveries;
       }
-  performed (assigns x v) fits =
+  performed (Assigns x v) fits =
       record {
         registers = put₂_holds Fits s.registers rank x fits small.registers;
         cells = small.cells;
         deliveries = small.deliveries;
       }
-  performed passes fits = small
-  performed (issues q remote source destination) fits =
+  performed Passes fits = small
+  performed (Issues q remote source destination) fits =
       record { registers = small.registers; cells = small.cells; deliveries = small.deliveries }
-  performed meets fits = small
+  performed Meets fits = small
 
 module _ (P : Program) (few : Fits P.header.ranks) where
   module _ (rank : ℕ) (registers : ℕ → ℕ) (low : Fits rank) (held : (i : ℕ) → Fits (registers i)) where
@@ -112,7 +113,7 @@ module _ (P : Program) (few : Fits P.header.ranks) where
         }
 
     walked : {bytes : List ℕ} (s : Replay) (at : ℕ) (items : List Item) {run : Replayed} → Each (Ranged P.header bytes) items →
-        Small s.machine → take_items P s at items ≡ ok run → Small run.last.machine
+        Small s.machine → take_items P s at items ≡ Ok run → Small run.last.machine
     unfolding take_items
     walked s at [] ranged small h = rw (← (ok_injective h)) small
     walked s at (i ∷ items) (one r ranged) small h =
@@ -122,7 +123,7 @@ module _ (P : Program) (few : Fits P.header.ranks) where
         rw (← (ok_injective h₂)) (walked t.state (at + 1) items ranged (stepped s i low small (item_taken P s at i taken)) others)
 
     replayed : {bytes : List ℕ} (start : Start) (items : List Item) {run : Replayed} → ((rank cell : ℕ) → Fits (start rank cell)) →
-        Each (Ranged P.header bytes) items → replay P start items ≡ ok run → Small run.last.machine
+        Each (Ranged P.header bytes) items → replay P start items ≡ Ok run → Small run.last.machine
     unfolding replay at_end begin initial
     replayed start items begun ranged h =
         let (r, taken, ended) = bind_ok (take_items P (begin start) 0 items) _ h in
@@ -133,7 +134,7 @@ module _ (P : Program) (few : Fits P.header.ranks) where
         (record { registers = λ rank index. omega arith; cells = begun; deliveries = λ rank queue. all }) taken)
 
 -- The last cells of an accepted record.
-pub cells_fit : (program start recorded : List ℕ) {a : Accepted} → AreBytes program → accept program start recorded ≡ ok a →
+pub cells_fit : (program start recorded : List ℕ) {a : Accepted} → AreBytes program → accept program start recorded ≡ Ok a →
     (rank cell : ℕ) → a.run.last.machine.cells rank cell < word_values
 cells_fit program start recorded {a} bound accepted =
     let p = accepted_parts program start recorded a accepted in

@@ -8,7 +8,7 @@ use lib.Dec.{ltb}
 use lib.ListN.{length, length-append}
 use Rattle.model.specs.declared.Header.{Header}
 use Rattle.model.specs.Limits.{byte_ranks, map_size}
-use Rattle.model.specs.Refusals.{ok}
+use Rattle.model.specs.Refusals.{Ok}
 use Rattle.model.specs.Choice.{numbers_from}
 use Rattle.model.specs.Bytes.{word_bytes, big_endian_bytes}
 use Rattle.model.specs.Marked.{marked_map, marked_bytes}
@@ -36,7 +36,7 @@ marked_short value first (suc count) =
     (λ t. rw t (omega (arith, length-append (word_bytes (value first)) (marked_bytes value (numbers_from (first + 1) count)), rest)))
     (λ t. rw t (omega (arith, rest)))
 
-pub slip_short : (program start recorded : List ℕ) (a : Accepted) → accept program start recorded ≡ ok a →
+pub slip_short : (program start recorded : List ℕ) (a : Accepted) → accept program start recorded ≡ Ok a →
     length (slip_of a) ≤ max_slip_bytes
 unfolding slip_of
 slip_short program start recorded a h =

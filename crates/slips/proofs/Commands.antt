@@ -11,7 +11,7 @@ use lib.ListN.{length, get_or}
 use borrow.Author.Tests.{eqb-true, eqb-false, eq-eqb, ne_eqb}
 use Rattle.model.specs.declared.Item.{Item}
 use Rattle.model.specs.Limits.{max_ranks, max_items}
-use Rattle.model.specs.Refusals.{ok, barrier_row, queues_left}
+use Rattle.model.specs.Refusals.{Ok, barrier_row, queues_left}
 use Rattle.model.specs.Choice.{select, numbers_from}
 use Rattle.model.specs.Programs.{Program}
 use Rattle.model.specs.Machine.{Start, put}
@@ -59,7 +59,7 @@ module _ (rank : ℕ) where
   item_counted {s = s} (fetches a rest c) = rw c.kind_is (sym (add-zero (s.taken rank)))
   item_counted {s = s} (delivers b rest c) = rw c.kind_is (sym (add-zero (s.taken rank)))
 
-  items_counted : (P : Program) (s : Replay) (at : ℕ) (items : List Item) {run : Replayed} → take_items P s at items ≡ ok run →
+  items_counted : (P : Program) (s : Replay) (at : ℕ) (items : List Item) {run : Replayed} → take_items P s at items ≡ Ok run →
       run.last.taken rank ≡ s.taken rank + count_of rank run.events
   unfolding take_items select
   items_counted P s at [] h = rw (← (ok_injective h)) (sym (add-zero (s.taken rank)))
@@ -70,7 +70,7 @@ module _ (rank : ℕ) where
       let later = items_counted P t.state (at + 1) items others in
       rw (← (ok_injective h₂)) (omega (arith, now, later, first_counted t.event rest.events))
 
-  replay_counted : (P : Program) (start : Start) (items : List Item) {run : Replayed} → replay P start items ≡ ok run →
+  replay_counted : (P : Program) (start : Start) (items : List Item) {run : Replayed} → replay P start items ≡ Ok run →
       run.last.taken rank ≡ count_of rank run.events
   unfolding replay at_end begin
   replay_counted P start items h =
@@ -94,7 +94,7 @@ and_no true e = e
 and_no false e = refl
 
 -- An accepted record.
-module _ (program start recorded : List ℕ) (a : Accepted) (accepted : accept program start recorded ≡ ok a) where
+module _ (program start recorded : List ℕ) (a : Accepted) (accepted : accept program start recorded ≡ Ok a) where
   pub commands_counted : (rank : ℕ) → a.run.last.taken rank ≡ count_of rank a.run.events
   commands_counted rank =
       let p = accepted_parts program start recorded a accepted in

@@ -1,4 +1,5 @@
 -- The slip of counts is read as those counts, and no other bytes are: so it is of values behind any map, and the map stands in its one byte or two.
+use Rattle.model.specs.declared.Found.{Found}
 use Prim.Native.Nat.{ℕ, suc, ◌+◌, ◌-◌, ◌^◌, ◌≤◌, ◌<◌}
 use mathlib.Core.Path.{◌≡◌, refl, sym, ap, ap₂, ◌∙◌}
 use mathlib.Core.List.{List, [], ◌++◌, map, append-nil}
@@ -8,9 +9,9 @@ use lib.ListN.{length, get_or, drop}
 use lib.Seq.{drop-length}
 use borrow.Author.Tests.{eq-eqb, lt-ltb}
 use Rattle.model.specs.Limits.{byte_ranks, max_items}
-use Rattle.model.specs.Refusals.{ok, slip_form}
+use Rattle.model.specs.Refusals.{Ok, slip_form}
 use Rattle.model.specs.Choice.{numbers_from}
-use Rattle.model.specs.Bytes.{AreBytes, Found, found, byte, word_bytes, judged, whole}
+use Rattle.model.specs.Bytes.{AreBytes, found, byte, word_bytes, judged, whole}
 use Rattle.model.specs.Marked.{marked_bytes}
 use Rattle.model.specs.Slips.{map_bytes, map_field, slip_reader}
 use Rattle.model.proofs.Laws.{decided, bind_ok}
@@ -49,7 +50,7 @@ module _ (ranks mapped : ℕ) (rest : List ℕ) where
   slip_end = decided (ltb byte_ranks ranks) (λ t. rw t (omega arith)) (λ t. rw t (omega arith))
 
 pub slip_reads : (f : ℕ → ℕ) → ((rank : ℕ) → f rank ≤ max_items) → (ranks : ℕ) →
-    whole slip_form (slip_reader ranks) (slip_up_to f ranks) ≡ ok (map f (numbers_from 1 ranks))
+    whole slip_form (slip_reader ranks) (slip_up_to f ranks) ≡ Ok (map f (numbers_from 1 ranks))
 unfolding whole slip_reader
 slip_reads f few ranks =
     let mapped = map_to 1 f ranks in
@@ -59,7 +60,7 @@ slip_reads f few ranks =
     rw (first_read ranks mapped counts (map_fits 1 f ranks), read, eq-eqb _ _ (slip_end ranks mapped counts))
 
 -- A map that was read stands in its one byte or two.
-map_stands : (ranks : ℕ) (slip : List ℕ) {m : Found ℕ} → AreBytes slip → map_field ranks slip 0 ≡ ok m →
+map_stands : (ranks : ℕ) (slip : List ℕ) {m : Found ℕ} → AreBytes slip → map_field ranks slip 0 ≡ Ok m →
     slip ≡ map_bytes ranks m.value ++ drop m.next slip
 unfolding map_field map_bytes
 map_stands ranks slip bound h =
@@ -76,7 +77,7 @@ listed_counts l ranks long =
     list_of (count_for l) 1 ranks 0 l long (λ row below. let e : 1 + row - 1 ≡ row = omega arith in ap (λ i. get_or l i 0) (sym e))
 
 -- The bytes that are read as these counts.
-slip_told : (ranks : ℕ) (slip : List ℕ) {l : List ℕ} → AreBytes slip → whole slip_form (slip_reader ranks) slip ≡ ok l →
+slip_told : (ranks : ℕ) (slip : List ℕ) {l : List ℕ} → AreBytes slip → whole slip_form (slip_reader ranks) slip ≡ Ok l →
     slip ≡ slip_up_to (count_for l) ranks
 unfolding slip_reader
 slip_told ranks slip {l} bound h =
@@ -92,6 +93,6 @@ slip_told ranks slip {l} bound h =
     ∙ append-nil (marked_bytes (count_for l) (numbers_from 1 ranks)))
 
 -- No other bytes are read as those counts.
-pub slip_unique : (ranks : ℕ) (slip other : List ℕ) {l : List ℕ} → AreBytes slip → AreBytes other → whole slip_form (slip_reader ranks) slip ≡ ok l →
-    whole slip_form (slip_reader ranks) other ≡ ok l → slip ≡ other
+pub slip_unique : (ranks : ℕ) (slip other : List ℕ) {l : List ℕ} → AreBytes slip → AreBytes other → whole slip_form (slip_reader ranks) slip ≡ Ok l →
+    whole slip_form (slip_reader ranks) other ≡ Ok l → slip ≡ other
 slip_unique ranks slip other bound bound' read read' = slip_told ranks slip bound read ∙ sym (slip_told ranks other bound' read')

@@ -4,6 +4,7 @@ use mathlib.Core.Path.{◌≡◌, sym, ap, ap₂, ◌∙◌}
 use mathlib.Core.List.{List, [], ◌∷◌, ◌++◌}
 use native.Mathlib.Nat.{mod-eq_of_lt}
 use native.Mathlib.Omega.{arith}
+use lib.Count.{ones, ones-le}
 use lib.Dec.{ltb}
 use lib.ListN.{length, get_or, length-append, length-map, get_or-eq_default}
 use lib.Pow.{pow_mono}
@@ -11,14 +12,14 @@ use borrow.Author.Tests.{ltb-true, ltb-false}
 use Rattle.model.specs.Limits.{byte_ranks, max_ranks, byte_values}
 use Rattle.model.specs.Choice.{numbers_from}
 use Rattle.model.specs.Checks.{Accepted, accept, entry_bytes}
-use Rattle.model.specs.Refusals.{ok}
+use Rattle.model.specs.Refusals.{Ok}
 use Rattle.model.specs.Marked.{marked_bytes}
 use Rattle.model.specs.Slips.{map_bytes, slip_of}
 use Rattle.model.proofs.Laws.{decided}
 use Rattle.record_facts.proofs.Bounds.{accepted_bounds}
 use Rattle.memory.specs.Made.{by_rank}
 use Rattle.memory.proofs.Filled.{numbers_length, numbers_at}
-use Rattle.lists.proofs.Pasted.{entry_length}
+use Rattle.lists.proofs.Forms.{entry_length}
 use Rattle.marked.specs.Maps.{map_bits}
 use Rattle.marked.proofs.MarkedMaps.{map_to, map_fits}
 use Rattle.marking.specs.Marking.{map_of, values_of}
@@ -60,7 +61,7 @@ module _ (f : ℕ → ℕ) (ranks : ℕ) (few : ranks ≤ max_ranks) (none : (ra
       ∙ ap (map_written ranks) (sym (map_whole 1 f (by_rank f) ranks room same (λ i above below. beyond i above))))
       (sym (values_whole 1 f (by_rank f) ranks room same (λ i above below. beyond i above)))
 
-pub slip_accepted : (program start recorded : List ℕ) (a : Accepted) → accept program start recorded ≡ ok a →
+pub slip_accepted : (program start recorded : List ℕ) (a : Accepted) → accept program start recorded ≡ Ok a →
     slip_of a ≡ slip_from a.program.header.ranks (by_rank a.run.last.taken)
 unfolding slip_of
 slip_accepted program start recorded a accepted =
@@ -68,9 +69,6 @@ slip_accepted program start recorded a accepted =
     (commands_none program start recorded a accepted)
 
 -- One byte or two.
-pub map_length_some : (ranks : ℕ) → 1 ≤ map_length ranks
-map_length_some ranks = decided (ltb byte_ranks ranks) (λ t. rw t (omega arith)) (λ t. rw t (omega arith))
-
 pub map_length_few : (ranks : ℕ) → map_length ranks ≤ 2
 map_length_few ranks = decided (ltb byte_ranks ranks) (λ t. rw t (omega arith)) (λ t. rw t (omega arith))
 
@@ -89,3 +87,7 @@ slip_length_lem ranks counts =
       entry_length (values_of (map_of counts) counts),
       values_ones (map_of counts) counts (map_small counts),
     )
+
+-- A map has no more ones than bits.
+pub ones_few : (mapped : ℕ) → mapped < 2 ^ map_bits → ones mapped ≤ map_bits
+ones_few mapped small = ones-le map_bits mapped small

@@ -2,9 +2,8 @@
 use Rattle.std.specs.Prelude.{ℕ, ◌^◌, List, ltb}
 use Rattle.model.specs.Limits.{max_items}
 use Rattle.model.specs.Refusals.{slip_form}
-use Rattle.model.specs.Bytes.{Reader, judged}
+use Rattle.model.specs.Bytes.{Reader, ◌>>=◌, judged}
 use Rattle.model.specs.Slips.{map_field}
-use Rattle.fields.specs.Fields.{◌>>=◌}
 use Rattle.marked.specs.Reading.{values_at}
 
 -- "a bit for a rank above N is 16 at byte 0"

@@ -9,13 +9,11 @@ use model::BYTE_RANKS;
 pub fn map_length(ranks: u16) -> usize
     ensures { result ≡ map_length ranks }
 {
-    if BYTE_RANKS < ranks {
-        return 2;
-    }
-    1
+    if BYTE_RANKS < ranks { 2 } else { 1 }
 }
 
 // "the slip has as many counts as the map has ones", of two bytes each behind the map.
+#[tactic(auto, using(crate::proofs::Writing::map_length_few, crate::proofs::Writing::ones_few))]
 pub fn slip_length(ranks: u16, map: u64) -> usize
     ensures { result ≡ slip_length ranks map }
 {

@@ -6,43 +6,37 @@ mod reader;
 
 ghost use Rattle.std.specs.Prelude.{◌≡◌, ◌≤◌, length};
 ghost use Rattle.model.specs.Checks.{fill};
-ghost use Rattle.model.specs.Refusals.{ok};
+ghost use Rattle.model.specs.Refusals.{Ok};
 ghost use Rattle.model.specs.Lending.{lend, answering};
 ghost use Rattle.model.specs.Slips.{write_slip, read_slip};
 ghost use Rattle.slips.specs.Writing.{map_length, map_written, slip_from};
 
 use crate::lengths::{map_length, slip_length};
 use crate::reader::read_counts;
-use lists::{fill_list, write_words};
-use marked::reader::Ended;
+use lists::{fill_list, write};
 use marking::{map_of, ones_in, values_of};
 use model::refusals::{MEMORY_TOO_SHORT, SLIP_FORM};
-use model::{BYTE_RANKS, CELLS, Filled, ITEMS, RANKS, Refusal, TOLD};
+use model::{CELLS, Filled, ITEMS, MAP_BYTES, RANKS, Refusal, TOLD};
 use rank_counts::command_counts;
-use replay::{Acceptance, replay};
+use replay::replay;
 
 // The map at the front: "two bytes if N is above 8 and one otherwise".
 fn write_map(slip: &mut [u8], ranks: u16, map: u64)
     requires { map_length ranks ≤ length slip.old }
     ensures { slip.new ≡ fill (map_written ranks map) slip.old }
 {
-    let low = (map % 256) as u8;
-    if BYTE_RANKS < ranks {
-        slip[0] = (map / 256 % 256) as u8;
-        slip[1] = low;
-    } else {
-        slip[0] = low;
-    }
+    let length = map_length(ranks);
+    slip[..length].copy_from_slice(&map.to_be_bytes()[MAP_BYTES - length..]);
 }
 
 // The slip of these counts for N ranks, where there is room for all of it.
 fn write_counts(counts: &[u16], ranks: u16, slip: &mut [u8]) -> Filled
-    ensures { answering result slip.new ≡ lend slip.old (ok (slip_from ranks counts.now)) }
+    ensures { answering result slip.new ≡ lend slip.old (Ok (slip_from ranks counts.now)) }
 {
     let map = map_of(counts);
     let needed = slip_length(ranks, map);
     if slip.len() < needed {
-        return Filled::Refused(Refusal {
+        return Err(Refusal {
             number: MEMORY_TOO_SHORT,
             place: needed,
         });
@@ -50,8 +44,8 @@ fn write_counts(counts: &[u16], ranks: u16, slip: &mut [u8]) -> Filled
     let listed = values_of(map, counts);
     let behind = map_length(ranks);
     write_map(slip, ranks, map);
-    write_words(&mut slip[behind..], 0, &listed, ones_in(map));
-    Filled::Entries(needed)
+    write(&mut slip[behind..], 0, &listed, ones_in(map));
+    Ok(needed)
 }
 
 // Writes the slip of an accepted record: "a .. map of ranks that have a command item .. then for each a two-byte count of those items". Program,
@@ -62,17 +56,9 @@ pub fn write_slip(program: &[u8], start: &[u8], recorded: &[u8], slip: &mut [u8]
 {
     let mut cells = [[0; CELLS]; RANKS];
     let mut trail = [[0; TOLD]; ITEMS];
-    match replay(program, start, recorded, &mut cells, &mut trail) {
-        Acceptance::Refused(refusal) => Filled::Refused(refusal),
-        Acceptance::Accepted {
-            header,
-            items,
-            groups: _,
-        } => {
-            let counts = command_counts(&trail, items);
-            write_counts(&counts, header.ranks, slip)
-        }
-    }
+    let run = replay(program, start, recorded, &mut cells, &mut trail)?;
+    let counts = command_counts(&trail, run.items);
+    write_counts(&counts, run.header.ranks, slip)
 }
 
 // Reads a slip for N ranks: each rank's count fills its entry, 0 for a rank without a bit. "N outside 1..8 .. is 16 at byte 0"; document 02, #105:
@@ -80,25 +66,18 @@ pub fn write_slip(program: &[u8], start: &[u8], recorded: &[u8], slip: &mut [u8]
 pub fn read_slip(ranks: u16, slip: &[u8], counts: &mut [u16]) -> Filled
     ensures { answering result counts.new ≡ read_slip ranks slip.now counts.old }
 {
-    if ranks < 1 || ranks as usize > RANKS {
-        return Filled::Refused(Refusal {
+    if !(1..=RANKS).contains(&usize::from(ranks)) {
+        return Err(Refusal {
             number: SLIP_FORM,
             place: 0,
         });
     }
-    let read = read_counts(slip, ranks);
-    let ended = read.ended;
-    let values = read.values;
-    match ended {
-        Ended::Refused(refusal) => Filled::Refused(refusal),
-        Ended::At(end) => {
-            if end != slip.len() {
-                return Filled::Refused(Refusal {
-                    number: SLIP_FORM,
-                    place: end,
-                });
-            }
-            fill_list(counts, &values, ranks as usize)
-        }
+    let read = read_counts(slip, ranks)?;
+    if read.next != slip.len() {
+        return Err(Refusal {
+            number: SLIP_FORM,
+            place: read.next,
+        });
     }
+    fill_list(counts, &read.value, ranks as usize)
 }

@@ -1,5 +1,4 @@
--- Maps of eight bytes, rows read in turn, and that what is read is the definition's start.
+-- Maps of eight bytes, and that what is read is the definition's start.
 pub mod MapBytes
-pub mod RowTurns
 pub mod Readings
 pub mod Told

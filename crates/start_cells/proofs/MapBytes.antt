@@ -1,101 +1,57 @@
--- A map's bytes as a loop reads them: what is left to read, behind what was read, is the whole. And its test for the cells of a rank.
-use Prim.Native.Nat.{ℕ, suc, ◌+◌, ◌-◌, ◌*◌, ◌^◌, ◌≤◌, ◌<◌}
-use mathlib.Core.Path.{◌≡◌, refl, ap, ◌∙◌}
-use mathlib.Core.Bool.{true, false}
+-- A map's eight bytes as one number: the definition, which goes byte by byte, finds the same number, or that a byte is missing.
+use Prim.Native.Nat.{ℕ, zero, suc, ◌+◌, ◌-◌, ◌*◌, ◌≤◌, ◌<◌}
+use mathlib.Core.Path.{◌≡◌, ap, sym, ◌∙◌}
 use mathlib.Core.List.{List}
 use native.Mathlib.Omega.{arith}
 use lib.Dec.{ltb}
-use lib.Pow.{pow-add, pow_mono}
-use Rattle.model.specs.declared.Refusal.{Refusal}
+use lib.ListN.{length, get_or, take, drop}
+use Rattle.std.specs.Int.{w64, from_be_bytes}
+use Rattle.std.specs.List.{slice_index, slice_range}
+use Rattle.std.proofs.lemmas.List.{get_or-take, get_or-drop}
+use borrow.Author.Tests.{le-ltb}
 use Rattle.model.specs.Limits.{byte_values, map_size}
-use Rattle.model.specs.Refusals as Refusals
-use Rattle.model.specs.Refusals.{Result, ok, refused, start_form}
-use Rattle.model.specs.Bytes.{AreBytes, Found, found, byte, big_endian, judged}
-use Rattle.model.specs.StartBytes.{start_map}
-use Rattle.model.proofs.Laws.{told}
-use Rattle.model.proofs.Bytes.{finds_byte}
-use Rattle.fields.specs.declared.Field.{Field}
-use Rattle.fields.specs.Fields.{field_of, field_refusal}
-use Rattle.fields.proofs.Fields.{field_told}
-use Rattle.start_cells.specs.declared.maps.MapRead.{MapRead}
-use Rattle.start_cells.specs.Answers.{map_read}
+use Rattle.model.specs.Refusals.{refuse}
+use Rattle.model.specs.Bytes.{found, byte, big_endian}
+use Rattle.model.proofs.Laws.{decided}
+use Rattle.model.proofs.Bytes.{byte_there}
 
--- So many bytes are read, and these are left.
-pub record Turn (bytes : List ℕ) (at map place done : ℕ) : Type 0 where
-  pub within : done ≤ map_size
-  pub small : map < 2 ^ (8 * done)
-  pub whole : big_endian start_form map_size 0 bytes at ≡ big_endian start_form (map_size - done) map bytes place
+module _ (early : ℕ) (bytes : List ℕ) where
+  -- Where they end before the last one, that is the refusal.
+  pub map_missing : (size high at : ℕ) → length bytes < at + suc size → big_endian early (suc size) high bytes at ≡ refuse early (length bytes)
+  unfolding big_endian byte
+  map_missing zero high at short = rw (le-ltb at (length bytes) (omega arith))
+  map_missing (suc size) high at short =
+      decided (ltb at (length bytes))
+      (λ t. rw t (map_missing size (high * byte_values + get_or bytes at 0) (at + 1) (omega arith)))
+      (λ t. rw t)
 
-module _ (bytes : List ℕ) (at : ℕ) where
-  pub turn_first : Turn bytes at 0 at 0
-  turn_first = record { within = omega arith; small = omega arith; whole = refl }
+  -- Where they are all there, each is the next digit.
+  module _ (chunk : List ℕ) (at : ℕ) (inside : at + map_size ≤ length bytes) (is : chunk ≡ take map_size (slice_range bytes at (length bytes))) where
+    chunk_at : (i : ℕ) → i < map_size → slice_index chunk i ≡ slice_index bytes (at + i)
+    chunk_at i below =
+        ap (λ l. get_or l i 0) is
+        ∙ get_or-take map_size (slice_range bytes at (length bytes)) i 0 below
+        ∙ get_or-take (length bytes - at) (drop at bytes) i 0 (omega arith)
+        ∙ get_or-drop at bytes i 0
 
-  module _ {map place done : ℕ} (so_far : Turn bytes at map place done) (more : done < map_size) where
-    one_read : big_endian start_form map_size 0 bytes at ≡ Refusals.◌>>=◌ (byte start_form bytes place)
-        (λ f. big_endian start_form (map_size - (done + 1)) (map * byte_values + f.value) bytes f.next)
+    one_read : (size high i : ℕ) → i < map_size →
+        big_endian early (suc size) high bytes (at + i) ≡ big_endian early size (high * byte_values + slice_index chunk i) bytes (at + (i + 1))
     unfolding big_endian
-    one_read = let e : map_size - done ≡ suc (map_size - (done + 1)) = omega arith in so_far.whole ∙ rw e
+    one_read size high i below =
+        let next : at + i + 1 ≡ at + (i + 1) = omega arith in
+        rw (byte_there early bytes (at + i) (omega arith), next, chunk_at i below)
 
-    module _ {x : Field} (read : x ≡ field_of (byte start_form bytes place)) where
-      pub turn_refused : {r s : Refusal} → x ≡ Field.Refused r → s ≡ field_refusal x →
-          MapRead.Refused s ≡ map_read (big_endian start_form map_size 0 bytes at)
-      turn_refused is told = rw (one_read, field_told (byte start_form bytes place) read is) (ap MapRead.Refused (told ∙ ap field_refusal is))
-
-      module _ (bound : AreBytes bytes) {low next : ℕ} (is : x ≡ Field.Read low next) where
-        low_small : low < byte_values
-        low_small = (finds_byte start_form).holds place _ (field_told (byte start_form bytes place) read is) bound
-
-        more_small : map * byte_values + low < 2 ^ (8 * (done + 1))
-        more_small =
-            let e : 8 * (done + 1) ≡ 8 * done + 8 = omega arith in
-            let power : 2 ^ (8 * (done + 1)) ≡ 2 ^ (8 * done) * byte_values = ap (λ k. 2 ^ k) e ∙ pow-add 2 (8 * done) 8 in
-            omega (arith, power, so_far.small, low_small)
-
-        -- It fits eight bytes.
-        pub turn_fits : map * byte_values + low < 2 ^ 64
-        turn_fits =
-            let few : 8 * (done + 1) ≤ 64 = omega arith in
-            omega (arith, more_small, pow_mono few)
-
-        pub turn_next : Turn bytes at (map * byte_values + low) next (done + 1)
-        turn_next =
-            record {
-              within = omega arith;
-              small = more_small;
-              whole = one_read ∙ rw (field_told (byte start_form bytes place) read is);
-            }
-
-  pub turn_last : {map place done : ℕ} → Turn bytes at map place done → map_size ≤ done →
-      MapRead.Map map place ≡ map_read (big_endian start_form map_size 0 bytes at)
-  unfolding big_endian
-  turn_last {done = done} so_far all = let e : map_size - done ≡ 0 = omega arith in rw (so_far.whole, e)
-
--- What an answer tells of the definition's reader.
-abbrev result_of : MapRead → Result (Found ℕ)
-result_of (MapRead.Map map next) = found map next
-result_of (MapRead.Refused r) = refused r
-
-back : (m : Result (Found ℕ)) → result_of (map_read m) ≡ m
-back (ok f) = refl
-back (refused r) = refl
-
-pub map_told : (m : Result (Found ℕ)) {x y : MapRead} → x ≡ map_read m → x ≡ y → m ≡ result_of y
-map_told m p q = told map_read result_of back m p q
-
--- A map that is judged.
-module _ (cells : ℕ) (bytes : List ℕ) (at : ℕ) {x : MapRead} (read : x ≡ map_read (big_endian start_form map_size 0 bytes at)) where
-  abbrev eight : Result (Found ℕ)
-  eight = big_endian start_form map_size 0 bytes at
-
-  pub map_stops : {r : Refusal} → x ≡ MapRead.Refused r → x ≡ map_read (start_map cells bytes at)
-  unfolding start_map judged
-  map_stops is = is ∙ rw (map_told eight read is)
-
-  module _ {map next : ℕ} (is : x ≡ MapRead.Map map next) where
-    pub map_inside : ltb map (2 ^ cells) ≡ true → MapRead.Map map next ≡ map_read (start_map cells bytes at)
-    unfolding start_map judged
-    map_inside t = rw (map_told eight read is, t)
-
-    pub map_beyond : ltb map (2 ^ cells) ≡ false → MapRead.Refused (record { number = start_form; place = at }) ≡ map_read (start_map cells bytes at)
-    unfolding start_map judged
-    map_beyond t = rw (map_told eight read is, t)
+    pub map_there : big_endian early map_size 0 bytes at ≡ found (from_be_bytes w64 chunk) (at + map_size)
+    unfolding big_endian
+    map_there =
+        let begin : at + 0 ≡ at = omega arith in
+        ap (big_endian early map_size 0 bytes) (sym begin)
+        ∙ one_read 7 0 0 (omega arith)
+        ∙ one_read 6 _ 1 (omega arith)
+        ∙ one_read 5 _ 2 (omega arith)
+        ∙ one_read 4 _ 3 (omega arith)
+        ∙ one_read 3 _ 4 (omega arith)
+        ∙ one_read 2 _ 5 (omega arith)
+        ∙ one_read 1 _ 6 (omega arith)
+        ∙ one_read 0 _ 7 (omega arith)
+        ∙ ap (λ v. found v (at + map_size)) (omega arith)

@@ -1,5 +1,6 @@
 -- For a header that a program has, the table that is read is the definition's start. The definition finds a list of readings for each rank, one for
 -- each of its A cells; the table has them in its first rows, filled up with 0.
+use Rattle.model.specs.declared.Found.{Found}
 use Prim.Native.Nat.{ℕ, zero, suc, ◌+◌, ◌-◌, ◌^◌, ◌≤◌, ◌<◌}
 use mathlib.Core.Path.{◌≡◌, refl, sym, ap, ◌∙◌}
 use mathlib.Core.List.{List, [], ◌∷◌, ◌++◌, map}
@@ -12,9 +13,9 @@ use borrow.Author.Tests.{ltb-true, lt-ltb, ne_eqb}
 use Rattle.model.specs.declared.Header.{Header}
 use Rattle.model.specs.Limits.{max_ranks, max_cells, max_value, map_size}
 use Rattle.model.specs.Refusals as Refusals
-use Rattle.model.specs.Refusals.{Result, ok, refused, refuse, start_form}
+use Rattle.model.specs.Refusals.{Result, Ok, Err, refuse, start_form}
 use Rattle.model.specs.Choice.{when, numbers_from, Each, all, one}
-use Rattle.model.specs.Bytes.{Found, found, big_endian, times, whole}
+use Rattle.model.specs.Bytes.{found, big_endian, times, whole}
 use Rattle.model.specs.Marked.{read_marked}
 use Rattle.model.specs.Programs.{HeaderFits}
 use Rattle.model.specs.Machine.{Start, zero_start}
@@ -60,19 +61,19 @@ module _ (cells : ℕ) (few : cells ≤ max_cells) (bytes : List ℕ) where
   unfolding row_reader rank_reader
   row_padded at = go (start_map cells bytes at) (λ f h. ltb-true f.value (2 ^ cells) (judged_ok (λ map. ltb map (2 ^ cells)) start_form (big_endian start_form map_size 0) bytes at h).1)
     where
-      filled : (m : Result (Found (List ℕ))) → ((f : Found (List ℕ)) → m ≡ ok f → length f.value ≡ cells) →
+      filled : (m : Result (Found (List ℕ))) → ((f : Found (List ℕ)) → m ≡ Ok f → length f.value ≡ cells) →
           Refusals.◌>>=◌ m (λ f. found (f.value ++ replicate (max_cells - cells) 0) f.next) ≡ padding m
-      filled (ok f) long = ap (λ n. found (f.value ++ replicate (max_cells - n) 0) f.next) (sym (long f refl))
-      filled (refused r) long = refl
+      filled (Ok f) long = ap (λ n. found (f.value ++ replicate (max_cells - n) 0) f.next) (sym (long f refl))
+      filled (Err r) long = refl
 
-      go : (m : Result (Found ℕ)) → ((f : Found ℕ) → m ≡ ok f → f.value < 2 ^ cells) →
+      go : (m : Result (Found ℕ)) → ((f : Found ℕ) → m ≡ Ok f → f.value < 2 ^ cells) →
           Refusals.◌>>=◌ m (λ f. values_at max_value start_form f.value bytes f.next)
           ≡ padding (Refusals.◌>>=◌ m (λ f. read_marked 0 max_value start_form f.value (numbers_from 0 cells) bytes f.next))
-      go (ok f) small =
+      go (Ok f) small =
           values_placed 0 max_value start_form f.value bytes cells few (small f refl) f.next
           ∙ filled (read_marked 0 max_value start_form f.value (numbers_from 0 cells) bytes f.next)
           (λ g h. (marked_length 0 max_value start_form f.value (numbers_from 0 cells)).holds f.next g h ∙ numbers_length 0 cells)
-      go (refused r) small = refl
+      go (Err r) small = refl
 
   -- The rows from one on, behind those that are done.
   abbrev joined : (done : Table) → (left : ℕ) → (new : List (List ℕ)) → Table
@@ -101,8 +102,8 @@ module _ (cells : ℕ) (few : cells ≤ max_cells) (bytes : List ℕ) where
 
       behind : (values : List ℕ) (m : Result (Found (List (List ℕ)))) →
           placing (done ++ padded values ∷ []) left m ≡ placing done left (Refusals.◌>>=◌ m (λ f. found (values ∷ f.value) f.next))
-      behind values (ok f) = ap (λ l. found l f.next) (append_snoc done (padded values) (map padded f.value ++ replicate left (padded [])))
-      behind values (refused r) = refl
+      behind values (Ok f) = ap (λ l. found l f.next) (append_snoc done (padded values) (map padded f.value ++ replicate left (padded [])))
+      behind values (Err r) = refl
 
       go : ((values : List ℕ) (next : ℕ) →
           rows_from cells count (row + 1) ((done ++ padded values ∷ []) ++ replicate (count + left) (padded [])) bytes next
@@ -113,11 +114,11 @@ module _ (cells : ℕ) (few : cells ≤ max_cells) (bytes : List ℕ) where
           ≡ placing done left
           (Refusals.◌>>=◌ m
           (λ a. Refusals.◌>>=◌ (times count (rank_reader cells) bytes a.next) (λ rest. found (a.value ∷ rest.value) rest.next)))
-      go further (ok f) =
+      go further (Ok f) =
           ap (λ table. rows_from cells count (row + 1) table bytes f.next) (kept f.value)
           ∙ further f.value f.next
           ∙ behind f.value (times count (rank_reader cells) bytes f.next)
-      go further (refused r) = refl
+      go further (Err r) = refl
 
 -- The rows, filled up, are the table of the start.
 row_made : (readings : List ℕ) → length readings ≤ max_cells → padded readings ≡ map (λ cell. get_or readings cell 0) (numbers_from 0 max_cells)
@@ -148,7 +149,7 @@ table_made readings few each =
 -- What is read for a header that a program has.
 module _ (header : Header) (fits : HeaderFits header) where
   abbrev pub tabled : Result Start → Result Table
-  tabled m = Refusals.◌>>=◌ m (λ readings. ok (table_of cells_size readings))
+  tabled m = Refusals.◌>>=◌ m (λ readings. Ok (table_of cells_size readings))
 
   zero_table : zeros cells_size ≡ table_of cells_size zero_start
   unfolding zero_start
@@ -181,36 +182,36 @@ module _ (header : Header) (fits : HeaderFits header) where
 
   some_read : (bytes : List ℕ) →
       whole start_form (rows_from header.cells header.ranks 0 (zeros cells_size)) bytes
-      ≡ Refusals.◌>>=◌ (whole start_form (start_reader header) bytes) (λ readings. ok (table_of cells_size (start_of readings)))
+      ≡ Refusals.◌>>=◌ (whole start_form (start_reader header) bytes) (λ readings. Ok (table_of cells_size (start_of readings)))
   unfolding whole start_reader
   some_read bytes =
       ap (λ m. Refusals.◌>>=◌ m (ended bytes)) (all_rows bytes)
       ∙ go (times header.ranks (rank_reader header.cells) bytes 0) (λ f h. (listed bytes).holds 0 f h)
     where
       ended : {A : Type 0} → List ℕ → Found A → Result A
-      ended bytes f = when (eqb f.next (length bytes)) (λ _. ok f.value) (λ _. refuse start_form f.next)
+      ended bytes f = when (eqb f.next (length bytes)) (λ _. Ok f.value) (λ _. refuse start_form f.next)
 
-      go : (m : Result (Found (List (List ℕ)))) → ((f : Found (List (List ℕ))) → m ≡ ok f → Listed f.value) →
+      go : (m : Result (Found (List (List ℕ)))) → ((f : Found (List (List ℕ))) → m ≡ Ok f → Listed f.value) →
           Refusals.◌>>=◌ (placing header.cells fits.cells_fit bytes [] (max_ranks - header.ranks) m) (ended bytes)
-          ≡ Refusals.◌>>=◌ (Refusals.◌>>=◌ m (ended bytes)) (λ readings. ok (table_of cells_size (start_of readings)))
-      go (ok f) is =
+          ≡ Refusals.◌>>=◌ (Refusals.◌>>=◌ m (ended bytes)) (λ readings. Ok (table_of cells_size (start_of readings)))
+      go (Ok f) is =
           let l = is f refl in
           let few : length f.value ≤ max_ranks = rw l.counted fits.ranks_fit in
           let made =
           ap (λ n. map padded f.value ++ replicate (max_ranks - n) (padded [])) (sym l.counted) ∙ table_made f.value few l.each in
-          decided (eqb f.next (length bytes)) (λ t. rw t (ap ok made)) (λ t. rw t)
-      go (refused r) is = refl
+          decided (eqb f.next (length bytes)) (λ t. rw t (ap Ok made)) (λ t. rw t)
+      go (Err r) is = refl
 
   pub cells_read_lem : (bytes : List ℕ) → cells_read header bytes ≡ tabled (read_start header bytes)
   unfolding cells_read read_start
-  cells_read_lem [] = ap ok zero_table
+  cells_read_lem [] = ap Ok zero_table
   cells_read_lem (first ∷ rest) =
-      ap (λ t. when t (λ _. ok (zeros cells_size)) (λ _. whole start_form (rows_from header.cells header.ranks 0 (zeros cells_size)) (first ∷ rest)))
+      ap (λ t. when t (λ _. Ok (zeros cells_size)) (λ _. whole start_form (rows_from header.cells header.ranks 0 (zeros cells_size)) (first ∷ rest)))
       (ne_eqb (length (first ∷ rest)) 0 (λ e. omega (arith, e)))
       ∙ some_read (first ∷ rest)
       ∙ joined_twice (whole start_form (start_reader header) (first ∷ rest))
     where
       joined_twice : (m : Result (List (List ℕ))) →
-          Refusals.◌>>=◌ m (λ readings. ok (table_of cells_size (start_of readings))) ≡ tabled (Refusals.◌>>=◌ m (λ readings. ok (start_of readings)))
-      joined_twice (ok readings) = refl
-      joined_twice (refused r) = refl
+          Refusals.◌>>=◌ m (λ readings. Ok (table_of cells_size (start_of readings))) ≡ tabled (Refusals.◌>>=◌ m (λ readings. Ok (start_of readings)))
+      joined_twice (Ok readings) = refl
+      joined_twice (Err r) = refl

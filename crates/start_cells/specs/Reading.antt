@@ -3,7 +3,7 @@
 use Rattle.std.specs.Prelude.{ℕ, zero, suc, ◌+◌, List, ltb, eqb, length, set}
 use Rattle.model.specs.declared.Header.{Header}
 use Rattle.model.specs.Limits.{max_ranks, max_value}
-use Rattle.model.specs.Refusals.{Result, ok, start_form}
+use Rattle.model.specs.Refusals.{Result, Ok, start_form}
 use Rattle.model.specs.Choice.{when}
 use Rattle.model.specs.Bytes.{Reader, ◌>>=◌, pure, whole}
 use Rattle.model.specs.StartBytes.{start_map}
@@ -26,5 +26,5 @@ rows_from cells (suc count) row table = row_reader cells >>= (λ values. rows_fr
 unfoldable pub cells_read : Header → (start : List ℕ) → Result Table
 cells_read header start =
     when (eqb (length start) 0)
-    (λ _. ok (zeros cells_size))
+    (λ _. Ok (zeros cells_size))
     (λ _. whole start_form (rows_from header.cells header.ranks 0 (zeros cells_size)) start)

@@ -8,38 +8,25 @@ ghost use Rattle.start_cells.specs.Reading.{cells_read};
 ghost use Rattle.start_cells.specs.Answers.{ReadsInto};
 
 use crate::rows::read_rows;
-use marked::reader::Ended;
 use model::refusals::START_FORM;
 use model::{CELLS, Cells, Header, RANKS, Refusal};
 
-// Whether bytes are a start of a program with these numbers, or why they are none.
-#[derive(Clone, Copy)]
-pub enum StartRead {
-    Readable,
-    Refused(Refusal),
-}
-
 // Reads a start into the cells: each rank's readings in its row, and 0 in every other cell. "No bytes at all .. mean that all is 0". On a refusal the
 // cells stay as they were.
-pub fn start_cells(start: &[u8], header: Header, cells: &mut Cells) -> StartRead
+#[tactic(auto, unfolding(crate::specs::Reading::cells_read, model::specs::Bytes::whole))]
+pub fn start_cells(start: &[u8], header: Header, cells: &mut Cells) -> Result<(), Refusal>
     ensures { ReadsInto (cells_read header start.now) cells.old cells.new result }
 {
     let mut read = [[0; CELLS]; RANKS];
-    if start.len() == 0 {
-        *cells = read;
-        return StartRead::Readable;
-    }
-    match read_rows(start, header, &mut read) {
-        Ended::Refused(refusal) => StartRead::Refused(refusal),
-        Ended::At(place) => {
-            if place != start.len() {
-                return StartRead::Refused(Refusal {
-                    number: START_FORM,
-                    place,
-                });
-            }
-            *cells = read;
-            StartRead::Readable
+    if !start.is_empty() {
+        let place = read_rows(start, header, &mut read)?;
+        if place != start.len() {
+            return Err(Refusal {
+                number: START_FORM,
+                place,
+            });
         }
     }
+    *cells = read;
+    Ok(())
 }

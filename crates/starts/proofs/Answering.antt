@@ -1,4 +1,5 @@
 -- What the writer answers, and what the lent bytes hold then: the definition's, since the list is written as the definition has it.
+use Rattle.std.specs.Prelude.{Ok, Err}
 use Prim.Native.Nat.{ℕ, suc, ◌+◌, ◌*◌, ◌/◌, ◌≤◌, ◌<◌}
 use mathlib.Core.Path.{◌≡◌, refl, sym, ap, ◌∙◌}
 use mathlib.Core.List.{List}
@@ -6,10 +7,9 @@ use native.Mathlib.Nat.{mul-le-mul, mul-le-mul_right, zero-add, suc-mul}
 use native.Mathlib.Omega.{arith}
 use lib.ListN.{length, get_or, length-map}
 use borrow.Author.Tests.{le-leb, lt-leb}
-use Rattle.model.specs.declared.Filled.TheVariants.{Entries, Refused}
 use Rattle.model.specs.declared.Header.{Header}
 use Rattle.model.specs.declared.Refusal.{Refusal}
-use Rattle.model.specs.Refusals.{ok, refused}
+use Rattle.model.specs.Refusals.{Ok, Err}
 use Rattle.model.specs.Choice.{numbers_from}
 use Rattle.model.specs.Programs.{Program, HeaderFits, read_program}
 use Rattle.model.specs.StartBytes.{listed_start, start_bytes}
@@ -18,8 +18,7 @@ use Rattle.model.specs.Lending.{Lent, answering, lend}
 use Rattle.model.specs.Starts.{start_from, write_start, write_start_bytes}
 use Rattle.model.proofs.Lending.{lends, lends_nothing}
 use Rattle.memory.proofs.Filled.{numbers_length, numbers_at}
-use Rattle.program.specs.declared.reader.ReadAnswer as ReadAnswer
-use Rattle.program.specs.declared.reader.ProgramRead.{ProgramRead}
+use Rattle.program.specs.declared.reader.Program as reader
 use Rattle.program.specs.Starts.{Answers}
 use Rattle.program.proofs.Programs.{readable, unreadable}
 use Rattle.starts.specs.Reading.{too_short}
@@ -49,11 +48,11 @@ module _ (header : Header) (entries : ℕ) (list : List ℕ) (listed : Listed he
     pub list_has : Has list header.ranks header.cells
     list_has = record { few_ranks = listed.fits.ranks_fit; few_cells = listed.fits.cells_fit; enough = listed.enough enough }
 
-    list_written : start_of_list header entries list ≡ ok all
+    list_written : start_of_list header entries list ≡ Ok all
     unfolding start_of_list listed_start
     list_written =
         rw (le-leb count entries enough)
-        (ap ok (sym (start_whole header list (listed_start header.cells list) (record { has = list_has; same = λ _ _ _ _. refl }))))
+        (ap Ok (sym (start_whole header list (listed_start header.cells list) (record { has = list_has; same = λ _ _ _ _. refl }))))
 
     module _ {needed : ℕ} (long : needed ≡ length all) (start : List ℕ) where
       pub memory_short : length start < needed → answering (too_short needed) start ≡ written start
@@ -63,34 +62,31 @@ module _ (header : Header) (entries : ℕ) (list : List ℕ) (listed : Listed he
         pub memory_has : HasRoom list start header.ranks header.cells
         memory_has = record { has = list_has; room = rw (← long) room }
 
-        pub memory_filled : {after : List ℕ} → after ≡ fill all start → answering (Entries needed) after ≡ written start
-        memory_filled is = ap (answering (Entries needed)) is ∙ lends start all (sym long) room ∙ ap (lend start) (sym list_written)
+        pub memory_filled : {after : List ℕ} → after ≡ fill all start → answering (Ok needed) after ≡ written start
+        memory_filled is = ap (answering (Ok needed)) is ∙ lends start all (sym long) room ∙ ap (lend start) (sym list_written)
 
 -- A program that can be read, with this header.
 pub record Readable (program : List ℕ) (header : Header) : Type 0 where
   pub P : Program
-  pub is : read_program program ≡ ok P
+  pub is : read_program program ≡ Ok P
   pub same : P.header ≡ header
   pub fits : HeaderFits header
 
-module _ (program : List ℕ) {read : ProgramRead} (answers : Answers program read) where
-  pub program_refused : {r : Refusal} → read.answer ≡ ReadAnswer.TheVariants.Refused r → read_program program ≡ refused r
-  program_refused h = unreadable (read_program program) (sym answers.answer ∙ h)
-
-  pub program_readable : {header : Header} → read.answer ≡ ReadAnswer.TheVariants.Readable header → Readable program header
-  program_readable h =
-      let (P, is, placed) = readable program (sym answers.answer ∙ h) in
+module _ (program : List ℕ) where
+  pub program_readable : {read : reader.Program} → Answers program (Ok read) → Readable program read.header
+  program_readable answers =
+      let (P, is, placed) = readable program answers in
       record { P = P; is = is; same = placed.same; fits = placed.bounded }
 
-  pub write_refused : (cells start : List ℕ) {r : Refusal} → read.answer ≡ ReadAnswer.TheVariants.Refused r →
-      answering (Refused r) start ≡ write_start program cells start
+  -- One that cannot be read is refused, and nothing is written.
+  pub write_refused : (cells start : List ℕ) {r : Refusal} → Answers program (Err r) → answering (Err r) start ≡ write_start program cells start
   unfolding write_start start_from lend
-  write_refused cells start h = rw (program_refused h)
+  write_refused cells start answers = rw (unreadable program answers)
 
-  pub write_bytes_refused : (cells start : List ℕ) {r : Refusal} → read.answer ≡ ReadAnswer.TheVariants.Refused r →
-      answering (Refused r) start ≡ write_start_bytes program cells start
+  pub write_bytes_refused : (cells start : List ℕ) {r : Refusal} → Answers program (Err r) →
+      answering (Err r) start ≡ write_start_bytes program cells start
   unfolding write_start_bytes write_start
-  write_bytes_refused cells start h = write_refused (two_by_two cells) start h
+  write_bytes_refused cells start answers = write_refused (two_by_two cells) start answers
 
 -- The list's start, for a program's header: of a list of numbers, and of one of bytes by its first entries.
 module _ {program : List ℕ} {header : Header} (program_has : Readable program header) where

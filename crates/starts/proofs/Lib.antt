@@ -8,5 +8,6 @@ pub mod Writing
 pub mod MapBytes
 pub mod RankBytes
 pub mod RankTurns
+pub mod Gathering
 pub mod Answering
 pub mod Reading

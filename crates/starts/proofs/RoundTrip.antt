@@ -2,6 +2,7 @@
 --
 -- From a place on, each rank's map is read, which is no larger than the rank's cells have bits for, and then its readings, as `marking` has it. The
 -- other way round, whatever is read stands there rank by rank as it would be written.
+use Rattle.model.specs.declared.Found.{Found}
 use Prim.Native.Nat.{ℕ, zero, suc, ◌+◌, ◌^◌, ◌≤◌, ◌<◌}
 use mathlib.Core.Path.{◌≡◌, refl, sym, ap, ap₂, ◌∙◌}
 use mathlib.Core.List.{List, [], ◌∷◌, ◌++◌, map, append-nil, append_assoc}
@@ -15,9 +16,9 @@ use borrow.Author.Tests.{eq-eqb, ltb-true, lt-ltb}
 use Rattle.model.specs.declared.Header.{Header}
 use Rattle.model.specs.Limits.{max_cells, map_size, max_value, byte_values}
 use Rattle.model.specs.Refusals as Refusals
-use Rattle.model.specs.Refusals.{ok, start_form}
+use Rattle.model.specs.Refusals.{Ok, start_form}
 use Rattle.model.specs.Choice.{numbers_from, Each, all, one}
-use Rattle.model.specs.Bytes.{AreBytes, Found, found, big_endian, big_endian_bytes, judged, times, whole}
+use Rattle.model.specs.Bytes.{AreBytes, found, big_endian, big_endian_bytes, judged, times, whole}
 use Rattle.model.specs.Marked.{marked_map, marked_bytes}
 use Rattle.model.specs.Programs.{HeaderFits}
 use Rattle.model.specs.Machine.{Start}
@@ -147,7 +148,7 @@ row_reads header start (suc row) cell low high few =
 
 -- Where there are bytes, they are read to the end.
 read_some : (header : Header) (bytes : List ℕ) → 0 < length bytes →
-    read_start header bytes ≡ Refusals.◌>>=◌ (whole start_form (start_reader header) bytes) (λ rows. ok (start_of rows))
+    read_start header bytes ≡ Refusals.◌>>=◌ (whole start_form (start_reader header) bytes) (λ rows. Ok (start_of rows))
 unfolding read_start
 read_some header [] some = absurd (omega arith)
 read_some header (first ∷ rest) some = refl
@@ -173,7 +174,7 @@ module _ (header : Header) (fits : HeaderFits header) where
 
   -- What is written is read back.
   pub start_reads : (start : Start) → ((rank cell : ℕ) → start rank cell ≤ max_value) →
-      read_start header (start_bytes header start) ≡ ok (start_of (rows_in header start))
+      read_start header (start_bytes header start) ≡ Ok (start_of (rows_in header start))
   unfolding whole start_reader start_bytes
   start_reads start few =
       let bytes = start_bytes header start in
@@ -181,7 +182,7 @@ module _ (header : Header) (fits : HeaderFits header) where
       read_some header bytes (bytes_some start) ∙ rw (read, eq-eqb _ _ (zero-add (length bytes)))
 
   -- What is read was written so, unless there are no bytes.
-  pub start_told : (bytes : List ℕ) {start : Start} → AreBytes bytes → 0 < length bytes → read_start header bytes ≡ ok start →
+  pub start_told : (bytes : List ℕ) {start : Start} → AreBytes bytes → 0 < length bytes → read_start header bytes ≡ Ok start →
       bytes ≡ start_bytes header start
   unfolding start_reader start_bytes
   start_told bytes {start} bound some h =

@@ -4,6 +4,7 @@
 -- (`written_read_back`, `written_read_back_bytes`). Two byte strings that are read as one start are the same, or both are forms of the start of zeros
 -- (`one_form`), whose maps are all 0 (`zero_maps`). And a run may start from the last cells of another, as the check leaves them in its list
 -- (`last_cells_start`, `checked_start`, `checked_start_bytes`).
+use Rattle.std.specs.Prelude.{Ok}
 use Prim.Native.Nat.{ℕ, zero, suc, ◌+◌, ◌*◌, ◌/◌, ◌≤◌}
 use mathlib.Core.Path.{◌≡◌, refl, sym, ap, ap₂, subst, ◌∙◌}
 use mathlib.Core.List.{List, [], ◌∷◌, ◌++◌}
@@ -13,10 +14,9 @@ use lib.Dec.{leb}
 use lib.ListN.{length, take, drop, replicate, length-append, replicate-append-replicate}
 use lib.Seq.{length-take-le}
 use borrow.Author.Tests.{leb-true, le-leb}
-use Rattle.model.specs.declared.Filled.TheVariants.{Entries}
 use Rattle.model.specs.declared.Header.{Header}
 use Rattle.model.specs.Limits.{map_size}
-use Rattle.model.specs.Refusals.{Result, ok, memory_too_short}
+use Rattle.model.specs.Refusals.{Result, Ok, memory_too_short}
 use Rattle.model.specs.Choice.{numbers_from}
 use Rattle.model.specs.Bytes.{AreBytes, big_endian_bytes}
 use Rattle.model.specs.Marked.{marked_map, marked_bytes}
@@ -64,13 +64,13 @@ unfolding start_bytes
 zero_maps header = zero_ranks header.cells 1 header.ranks
 
 -- One start has one form.
-zero_form : (header : Header) → HeaderFits header → (bytes : List ℕ) → AreBytes bytes → read_start header bytes ≡ ok zero_start → ZeroForm header bytes
+zero_form : (header : Header) → HeaderFits header → (bytes : List ℕ) → AreBytes bytes → read_start header bytes ≡ Ok zero_start → ZeroForm header bytes
 zero_form header fits [] bound h = no_bytes
 zero_form header fits (first ∷ rest) bound h =
     subst (ZeroForm header) (sym (start_told header fits (first ∷ rest) bound (zero-lt-suc _) h)) the_maps
 
 pub one_form : (header : Header) → HeaderFits header → (bytes others : List ℕ) {start : Start} → AreBytes bytes → AreBytes others →
-    read_start header bytes ≡ ok start → read_start header others ≡ ok start → OneForm header bytes others
+    read_start header bytes ≡ Ok start → read_start header others ≡ Ok start → OneForm header bytes others
 unfolding read_start
 one_form header fits [] others bound bound' h h' = all_zero no_bytes (zero_form header fits others bound' (h' ∙ sym h))
 one_form header fits (first ∷ rest) [] bound bound' h h' = all_zero (zero_form header fits (first ∷ rest) bound (h ∙ sym h')) no_bytes
@@ -83,7 +83,7 @@ written_front : {memory : List ℕ} {m : Result (List ℕ)} {n : ℕ} (w : Filli
 written_front {memory} w = ap₂ take w.counted w.holds ∙ fill_front w.entries memory
 
 -- A program that can be read.
-module _ (program : List ℕ) (P : Program) (readable : read_program program ≡ ok P) where
+module _ (program : List ℕ) (P : Program) (readable : read_program program ≡ Ok P) where
   abbrev count : ℕ
   count = P.header.ranks * P.header.cells
 
@@ -92,35 +92,35 @@ module _ (program : List ℕ) (P : Program) (readable : read_program program ≡
     enough : count ≤ length cells
     is : bytes ≡ start_bytes P.header (listed_start P.header.cells cells)
 
-  from_list : (cells bytes : List ℕ) → start_from program cells ≡ ok bytes → FromList cells bytes
+  from_list : (cells bytes : List ℕ) → start_from program cells ≡ Ok bytes → FromList cells bytes
   unfolding start_from
   from_list cells bytes h =
       let (test, is) = required (leb count (length cells)) memory_too_short count _ (rw readable at h) in
       record { enough = leb-true count (length cells) test; is = sym (ok_injective is) }
 
   -- The reader gives back what the writer wrote.
-  pub read_back : (cells bytes : List ℕ) → AreWords cells → start_from program cells ≡ ok bytes → readings_in program bytes ≡ ok (take count cells)
+  pub read_back : (cells bytes : List ℕ) → AreWords cells → start_from program cells ≡ Ok bytes → readings_in program bytes ≡ Ok (take count cells)
   unfolding readings_in
   read_back cells bytes words h =
       let from = from_list cells bytes h in
       let header = P.header in
       let start = listed_start header.cells cells in
       rw (readable, from.is, start_reads header (header_fits program readable) start (listed_few header.cells cells words))
-      (ap ok
+      (ap Ok
       (rank_same header.ranks header.cells (start_of (rows_in header start)) start (row_reads header start)
       ∙ listed_again header.ranks header.cells cells from.enough))
 
   -- The same into lent lists.
-  read_into : (form : Form) (cells bytes list : List ℕ) → AreWords cells → start_from program cells ≡ ok bytes → count ≤ form.entries list →
-      lend_as form list (readings_in program bytes) ≡ answering (Entries count) (fill (form.shown (take count cells)) list)
+  read_into : (form : Form) (cells bytes list : List ℕ) → AreWords cells → start_from program cells ≡ Ok bytes → count ≤ form.entries list →
+      lend_as form list (readings_in program bytes) ≡ answering (Ok count) (fill (form.shown (take count cells)) list)
   read_into form cells bytes list words h room =
       rw (read_back cells bytes words h)
       (sym (lends_as form list (take count cells) (length-take-le count cells (from_list cells bytes h).enough) room))
 
   -- The writer's bytes, so many as it says, are read back into a list, whose other entries are untouched.
-  pub written_read_back : (cells memory : List ℕ) {n : ℕ} → AreWords cells → (write_start program cells memory).answer ≡ Entries n →
+  pub written_read_back : (cells memory : List ℕ) {n : ℕ} → AreWords cells → (write_start program cells memory).answer ≡ Ok n →
       (list : List ℕ) → count ≤ length list →
-      read_start_into program (take n (write_start program cells memory).memory) list ≡ answering (Entries count) (fill (take count cells) list)
+      read_start_into program (take n (write_start program cells memory).memory) list ≡ answering (Ok count) (fill (take count cells) list)
   unfolding write_start read_start_into
   written_read_back cells memory words h list room =
       let w = filling memory (start_from program cells) h in
@@ -128,10 +128,10 @@ module _ (program : List ℕ) (P : Program) (readable : read_program program ≡
       (sym (lend_numbers list (readings_in program w.entries)) ∙ read_into as_numbers cells w.entries list words w.is room)
 
   -- And in bytes, two an entry.
-  pub written_read_back_bytes : (cells memory : List ℕ) {n : ℕ} → AreBytes cells → (write_start_bytes program cells memory).answer ≡ Entries n →
+  pub written_read_back_bytes : (cells memory : List ℕ) {n : ℕ} → AreBytes cells → (write_start_bytes program cells memory).answer ≡ Ok n →
       (list : List ℕ) → count ≤ length list / 2 →
       read_start_into_bytes program (take n (write_start_bytes program cells memory).memory) list
-      ≡ answering (Entries count) (fill (take (2 * count) cells) list)
+      ≡ answering (Ok count) (fill (take (2 * count) cells) list)
   unfolding write_start_bytes read_start_into_bytes
   written_read_back_bytes cells memory bound h list room =
       let w = filling memory (start_from program (two_by_two cells)) h in
@@ -139,10 +139,10 @@ module _ (program : List ℕ) (P : Program) (readable : read_program program ≡
       rw (written_front w)
       (sym (lend_bytes_lem list (readings_in program w.entries))
       ∙ read_into as_words (two_by_two cells) w.entries list (two_words cells bound) w.is room
-      ∙ ap (λ l. answering (Entries count) (fill l list)) (two_bytes count cells bound (omega (arith, enough, two_length cells))))
+      ∙ ap (λ l. answering (Ok count) (fill l list)) (two_bytes count cells bound (omega (arith, enough, two_length cells))))
 
 -- Starting from the last cells of another run: the list that the check fills is one that the writer takes, whatever stands behind them.
-module _ (program start recorded : List ℕ) (a : Accepted) (accepted : accept program start recorded ≡ ok a) where
+module _ (program start recorded : List ℕ) (a : Accepted) (accepted : accept program start recorded ≡ Ok a) where
   abbrev header : Header
   header = a.program.header
 

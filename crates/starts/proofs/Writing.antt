@@ -13,7 +13,7 @@ use Rattle.model.specs.Bytes.{big_endian_bytes}
 use Rattle.model.specs.Machine.{Start}
 use Rattle.model.specs.StartBytes.{rank_bytes, ranks_bytes, start_bytes}
 use Rattle.model.specs.Checks.{entry_bytes}
-use Rattle.lists.proofs.Pasted.{entry_length}
+use Rattle.lists.proofs.Forms.{entry_length}
 use Rattle.marked.specs.Maps.{map_bits}
 use Rattle.marking.specs.Marking.{map_of, values_of}
 use Rattle.marking.proofs.Writing.{map_small, values_ones, map_whole, values_whole}

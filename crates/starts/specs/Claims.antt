@@ -2,7 +2,7 @@
 use Rattle.std.specs.Prelude.{ℕ, ◌≤◌, ◌<◌, ◌≡◌, List, [], get_or}
 use Rattle.model.specs.declared.Header.{Header}
 use Rattle.model.specs.Limits.{word_values}
-use Rattle.model.specs.Refusals.{ok}
+use Rattle.model.specs.Refusals.{Ok}
 use Rattle.model.specs.Machine.{Start, zero_start}
 use Rattle.model.specs.StartBytes.{read_start, start_bytes}
 use Rattle.model.specs.Starts.{start_from}
@@ -25,6 +25,6 @@ pub data OneForm (header : Header) : (bytes others : List ℕ) → Type 0 where
 pub record StartsFrom (program list : List ℕ) (header : Header) (cells : ℕ → ℕ → ℕ) : Type 0 where
   pub bytes : List ℕ
   pub readings : Start
-  pub written : start_from program list ≡ ok bytes
-  pub read : read_start header bytes ≡ ok readings
+  pub written : start_from program list ≡ Ok bytes
+  pub read : read_start header bytes ≡ Ok readings
   pub same : (rank cell : ℕ) → 1 ≤ rank → rank ≤ header.ranks → cell < header.cells → readings rank cell ≡ cells rank cell

@@ -4,7 +4,7 @@ use Rattle.std.specs.Prelude.{ℕ, zero, suc, ◌+◌, ◌*◌, ◌≤◌, ◌�
 use Rattle.std.specs.Int.Count.{ones}
 use Rattle.model.specs.declared.Header.{Header}
 use Rattle.model.specs.Limits.{max_ranks, max_cells, map_size}
-use Rattle.model.specs.Refusals.{Result, ok, require, memory_too_short, ◌>>=◌}
+use Rattle.model.specs.Refusals.{Result, Ok, require, memory_too_short, ◌>>=◌}
 use Rattle.model.specs.Choice.{numbers_from}
 use Rattle.model.specs.Bytes.{big_endian_bytes}
 use Rattle.model.specs.Programs.{HeaderFits}
@@ -50,7 +50,7 @@ unfolding listed_start start_bytes
 start_of_list header entries list = do
   let count : ℕ = header.ranks * header.cells
   _ ← require (leb count entries) memory_too_short count
-  ok (start_bytes header (listed_start header.cells list))
+  Ok (start_bytes header (listed_start header.cells list))
 
 -- The header is a program's, and the list has as many of its entries as the header's machine has cells.
 pub record Listed (header : Header) (entries : ℕ) (list : List ℕ) : Type 0 where

@@ -10,38 +10,27 @@ ghost use Rattle.model.specs.Lending.{answering};
 ghost use Rattle.model.specs.Starts.{write_start, write_start_bytes, read_start_into, read_start_into_bytes};
 
 use crate::entries::entries_of;
-use crate::reader::read_into;
+use crate::reader::read_list;
 use crate::writer::write_list;
-use lists::{write_cell_words, write_cells};
-use model::{CELLS, Filled, RANKS};
-use program::reader::{ReadAnswer, read_program};
+use model::Filled;
+use program::reader::read_program;
 
 // Writes the start that a cell list says, "as the check fills it", for a program: "list, then memory, too short gives 15". Nothing is written on a
 // refusal.
 pub fn write_start(program: &[u8], cells: &[u16], start: &mut [u8]) -> Filled
     ensures { answering result start.new ≡ write_start program.now cells.now start.old }
 {
-    let read = read_program(program);
-    let answer = read.answer;
-    match answer {
-        ReadAnswer::Refused(refusal) => Filled::Refused(refusal),
-        ReadAnswer::Readable(header) => write_list(header, cells.len(), cells, start),
-    }
+    let read = read_program(program)?;
+    write_list(read.header, cells.len(), cells, start)
 }
 
 // The same with the list in bytes, two an entry, big-endian. An odd last byte is never used.
 pub fn write_start_bytes(program: &[u8], cells: &[u8], start: &mut [u8]) -> Filled
     ensures { answering result start.new ≡ write_start_bytes program.now cells.now start.old }
 {
-    let read = read_program(program);
-    let answer = read.answer;
-    match answer {
-        ReadAnswer::Refused(refusal) => Filled::Refused(refusal),
-        ReadAnswer::Readable(header) => {
-            let list = entries_of(cells);
-            write_list(header, cells.len() / 2, &list, start)
-        }
-    }
+    let read = read_program(program)?;
+    let list = entries_of(cells);
+    write_list(read.header, cells.len() / 2, &list, start)
 }
 
 // Reads a start for a program: each cell's reading fills its entry, rank 1's first. A start that is not right is refused before a list that is too
@@ -49,18 +38,12 @@ pub fn write_start_bytes(program: &[u8], cells: &[u8], start: &mut [u8]) -> Fill
 pub fn read_start(program: &[u8], start: &[u8], cells: &mut [u16]) -> Filled
     ensures { answering result cells.new ≡ read_start_into program.now start.now cells.old }
 {
-    let mut readings = [[0; CELLS]; RANKS];
-    let read = read_into(program, start, cells.len(), &mut readings);
-    write_cells(cells, &readings, read.ranks, read.width);
-    read.answer
+    read_list(program, start, cells)
 }
 
 // The same with the list in bytes.
 pub fn read_start_bytes(program: &[u8], start: &[u8], cells: &mut [u8]) -> Filled
     ensures { answering result cells.new ≡ read_start_into_bytes program.now start.now cells.old }
 {
-    let mut readings = [[0; CELLS]; RANKS];
-    let read = read_into(program, start, cells.len() / 2, &mut readings);
-    write_cell_words(cells, &readings, read.ranks, read.width);
-    read.answer
+    read_list(program, start, cells)
 }

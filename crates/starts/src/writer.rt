@@ -6,7 +6,7 @@ ghost use Rattle.model.specs.Checks.{fill};
 ghost use Rattle.model.specs.Lending.{answering, lend};
 ghost use Rattle.starts.specs.Writing.{rank_length, WritesRank, ranks_written, Has, HasRoom, start_of_list, Listed};
 
-use lists::write_words;
+use lists::write;
 use marking::{map_of, ones_in, values_of};
 use model::refusals::MEMORY_TOO_SHORT;
 use model::{Filled, Header, MAP_BYTES, Refusal};
@@ -16,16 +16,11 @@ fn write_map(map: u64, start: &mut [u8])
     requires { map_size ≤ length start.old }
     ensures { start.new ≡ fill (big_endian_bytes map_size map) start.old }
 {
-    let mut rest = map;
-    let mut left = MAP_BYTES;
-    while left > 0 {
-        start[left - 1] = (rest % 256) as u8;
-        rest = rest / 256;
-        left -= 1;
-    }
+    start[..MAP_BYTES].copy_from_slice(&map.to_be_bytes());
 }
 
 // How many bytes a rank's readings take.
+#[tactic(auto, using(crate::proofs::Writing::ones_few))]
 fn rank_length(readings: &[u16]) -> usize
     ensures { result ≡ rank_length readings.now }
 {
@@ -42,7 +37,7 @@ fn write_rank(readings: &[u16], start: &mut [u8]) -> usize
     let values = values_of(map, readings);
     let behind = MAP_BYTES;
     write_map(map, start);
-    write_words(&mut start[behind..], 0, &values, count);
+    write(&mut start[behind..], 0, &values, count);
     behind + 2 * count
 }
 
@@ -52,12 +47,10 @@ fn ranks_length(cells: &[u16], ranks: usize, width: usize) -> usize
     ensures { result ≡ length (ranks_written width cells.now 0 ranks) }
 {
     let mut length = 0;
-    let mut row = 0;
-    while row < ranks {
+    for row in 0..ranks {
         let first = row * width;
         let end = first + width;
         length += rank_length(&cells[first..end]);
-        row += 1;
     }
     length
 }
@@ -68,12 +61,10 @@ fn write_ranks(cells: &[u16], ranks: usize, width: usize, start: &mut [u8])
     ensures { start.new ≡ fill (ranks_written width cells.now 0 ranks) start.old }
 {
     let mut at = 0;
-    let mut row = 0;
-    while row < ranks {
+    for row in 0..ranks {
         let first = row * width;
         let end = first + width;
         at += write_rank(&cells[first..end], &mut start[at..]);
-        row += 1;
     }
 }
 
@@ -86,18 +77,18 @@ pub fn write_list(header: Header, entries: usize, cells: &[u16], start: &mut [u8
     let width = header.cells as usize;
     let count = ranks * width;
     if entries < count {
-        return Filled::Refused(Refusal {
+        return Err(Refusal {
             number: MEMORY_TOO_SHORT,
             place: count,
         });
     }
     let needed = ranks_length(cells, ranks, width);
     if start.len() < needed {
-        return Filled::Refused(Refusal {
+        return Err(Refusal {
             number: MEMORY_TOO_SHORT,
             place: needed,
         });
     }
     write_ranks(cells, ranks, width, start);
-    Filled::Entries(needed)
+    Ok(needed)
 }

@@ -12,20 +12,18 @@ use Rattle.model.specs.declared.Kind.{Kind}
 use Rattle.model.specs.declared.Kind.TheVariants.{Popa, Popb}
 use Rattle.model.specs.declared.Refusal.{Refusal}
 use Rattle.model.specs.Limits.{max_items, max_transitions}
-use Rattle.model.specs.Refusals.{Result, ok, refused, barrier_row}
+use Rattle.model.specs.Refusals.{Result, Ok, Err, barrier_row}
 use Rattle.model.specs.ItemKinds.{same_kind, has_place, Part, command, fetch, delivery, part_of}
 use Rattle.model.specs.Programs.{Program}
 use Rattle.model.specs.Replay.{Replay, row_allows, take_part, take_item}
 use Rattle.model.specs.Traces.{ChosenIn}
 use Rattle.model.proofs.ItemKinds.{same_kind_true, command≢fetch, command≢delivery}
-use Rattle.model.proofs.Laws.{decided}
+use Rattle.model.proofs.Laws.{decided, refused≢ok}
 use Rattle.memory.specs.Tables.{Rank, Place}
 use Rattle.items.specs.declared.rows.Progress.{Progress}
-use Rattle.machine.specs.declared.Outcome.{Outcome}
-use Rattle.machine.specs.declared.Outcome.TheVariants.{Taken, Refused}
 use Rattle.machine.specs.Arrays.{Memory}
 use Rattle.machine.specs.Standing.{Standing}
-use Rattle.machine.specs.Outcomes.{Left, Does, outcome_of, memory_after}
+use Rattle.machine.specs.Outcomes.{Left, Does, Outcome, outcome_of, memory_after}
 use Rattle.machine.proofs.Agreement.{Together, together_does, together_test}
 use Rattle.commands.proofs.CommandSteps.{transition_together}
 use Rattle.pops.proofs.PopSteps.{fetch_together, delivery_together}
@@ -33,12 +31,9 @@ use Rattle.step.specs.Standing.{ItemFits, Loaded, Steps}
 use Rattle.step.specs.Steps.{part_on, item_on}
 
 -- An item that is refused leaves the arrays as they were.
-not_taken : {next : Progress} {group access : ℕ} {r : Refusal} → ¬ (Taken next group access ≡ Refused r)
-not_taken e = let z : ◌≡◌ {A = ℕ} 0 1 = cc in omega arith
-
-refusal_keeps : (result : Result Left) (m : Memory) {r : Refusal} → outcome_of result ≡ Refused r → memory_after m result ≡ m
-refusal_keeps (ok l) m e = absurd (not_taken e)
-refusal_keeps (refused x) m e = refl
+refusal_keeps : (result : Result Left) (m : Memory) {r : Refusal} → outcome_of result ≡ Err r → memory_after m result ≡ m
+refusal_keeps (Ok l) m e = absurd (refused≢ok (sym e))
+refusal_keeps (Err x) m e = refl
 
 -- Both pops have a place.
 pop_place : (k : Kind) → ¬ (part_of k ≡ command) → has_place k ≡ true

@@ -1,7 +1,5 @@
 -- How a program stands in its bytes, and the promise of the step.
-use Rattle.std.specs.Prelude.{ℕ, ◌≤◌, ◌<◌, ◌≡◌, List, true, get_or}
-use Rattle.std.proofs.Math.Option.{some}
-use Rattle.std.proofs.Math.ListN.{get_elem?}
+use Rattle.std.specs.Prelude.{ℕ, ◌≤◌, ◌<◌, ◌≡◌, List, true, get_or, Some, Err, slice_get}
 use Rattle.model.specs.declared.Header.{Header}
 use Rattle.model.specs.declared.Item.{Item}
 use Rattle.model.specs.declared.Refusal.{Refusal}
@@ -12,10 +10,8 @@ use Rattle.model.specs.Bytes.{found}
 use Rattle.model.specs.Replay.{Replay, take_item}
 use Rattle.model.specs.Traces.{ChosenIn}
 use Rattle.items.specs.declared.rows.Progress.{Progress}
-use Rattle.machine.specs.declared.Outcome as Outcome
-use Rattle.machine.specs.declared.Outcome.{Outcome}
 use Rattle.machine.specs.Arrays.{Memory}
-use Rattle.machine.specs.Outcomes.{Does}
+use Rattle.machine.specs.Outcomes.{Does, Outcome}
 use Rattle.machine.specs.Standing.{Standing, Agree}
 use Rattle.step.specs.Steps.{item_on}
 
@@ -23,7 +19,7 @@ use Rattle.step.specs.Steps.{item_on}
 pub record Stands (bytes starts : List ℕ) (header : Header) (P : Program) (number : ℕ) : Type 0 where
   pub transition : Transition
   pub end : ℕ
-  pub named : get_elem? P.transitions number ≡ some transition
+  pub named : slice_get P.transitions number ≡ Some transition
   pub read : read_transition header bytes (get_or starts number 0) ≡ found transition end
 
 -- An item whose rank, transition or queue, and place are ones that a program with this header has.
@@ -46,5 +42,5 @@ pub record Loaded (bytes starts : List ℕ) (header : Header) (P : Program) : Ty
 pub record Steps (bytes starts : List ℕ) (header : Header) (i : Item) (p : Progress) (before after : Memory) (outcome : Outcome) : Type 0 where
   pub agrees : (P : Program) (s : Replay) → Loaded bytes starts header P → ItemFits header i → p.at < max_items → Standing before p s →
       Agree p.at (take_item P s p.at i) after outcome
-  pub kept : (r : Refusal) → outcome ≡ Outcome.TheVariants.Refused r → after ≡ before
+  pub kept : (r : Refusal) → outcome ≡ Err r → after ≡ before
   pub does : Does (item_on bytes starts header i p before) before after outcome

@@ -6,7 +6,7 @@ use native.Mathlib.Numerals.{add-one}
 use native.Mathlib.Omega.{arith}
 use lib.Dec.{leb}
 use lib.ListN.{length, take, drop, set, length-append, length-drop, length-set, drop_of_length-le}
-use lib.Seq.{paste, drop-cons, get_or-set_same, drop-set-lt, drop-drop, take_all, take-length, take-append_seam, drop-append_seam, drop-append-add}
+use lib.Seq.{drop-cons, get_or-set_same, drop-set-lt, drop-drop, take_all, take-append_seam, drop-append_seam, drop-append-add}
 use borrow.Author.Tests.{le-leb, lt-leb, leb-true}
 use Rattle.model.specs.Checks.{fill}
 use Rattle.model.proofs.Laws.{when_true, when_false, decided}
@@ -75,10 +75,6 @@ fill_last new x text h =
 pub fill_none : (text : List ℕ) → fill [] text ≡ text
 unfolding fill
 fill_none text = refl
-
-pub paste_front : (new text : List ℕ) → paste text 0 new (length new) ≡ fill new text
-unfolding fill
-paste_front new text = let z : 0 + length new ≡ length new = omega arith in rw (take-length, z)
 
 -- A text whose front is written, up to a place.
 pub record Grown (found done text : List ℕ) (at : ℕ) : Type 0 where

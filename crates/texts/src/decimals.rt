@@ -27,13 +27,10 @@ pub fn write_decimal(text: &mut [u8], number: usize) -> usize
     if text.len() < count {
         return 0;
     }
-    let mut at = count - 1;
     let mut left = number;
-    while 10 <= left {
+    for at in (0..count).rev() {
         text[at] = ZERO + (left % 10) as u8;
         left /= 10;
-        at -= 1;
     }
-    text[at] = ZERO + left as u8;
     count
 }

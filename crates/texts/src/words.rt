@@ -8,10 +8,6 @@ pub fn write_word(text: &mut [u8], word: &[u8]) -> usize
     if text.len() < word.len() {
         return 0;
     }
-    let mut done = 0;
-    while done < word.len() {
-        text[done] = word[done];
-        done += 1;
-    }
-    done
+    text[..word.len()].copy_from_slice(word);
+    word.len()
 }

@@ -1,8 +1,9 @@
 -- Whether an event's access writes is told by its kind: a store's and a delivery's does, a load's and a fetch's does not, and no other item has one.
+use Rattle.std.specs.Prelude.{Option, Some, None}
+use Rattle.model.proofs.Options.{some-injective, none-ne-some}
 use Prim.Native.Nat.{ℕ}
 use mathlib.Core.Path.{◌≡◌, refl, sym, ◌∙◌, ap, subst}
 use mathlib.Core.Bool.{Bool, true}
-use mathlib.Core.Option.{Option, some, none, some-injective, none-ne-some}
 use Rattle.model.specs.declared.Address.{Address}
 use Rattle.model.specs.declared.Kind.{Kind}
 use Rattle.model.specs.ItemKinds.{has_place}
@@ -21,19 +22,19 @@ use Rattle.traces.specs.Claims.{RecordedRun, writes_kind}
 
 -- The cell and the value of an access.
 abbrev pub cell_in : Option Access → Option Address
-cell_in x = elim x [ none ↦ none | some a ↦ some a.address ]
+cell_in x = elim x [ None ↦ None | Some a ↦ Some a.address ]
 
 abbrev pub value_in : Option Access → Option ℕ
-value_in x = elim x [ none ↦ none | some a ↦ some a.value ]
+value_in x = elim x [ None ↦ None | Some a ↦ Some a.value ]
 
 -- Whether an access writes, if there is one.
 abbrev pub WritesAs : Bool → Option Access → Type 0
-WritesAs w none = Unit {0}
-WritesAs w (some a) = a.writes ≡ w
+WritesAs w None = Unit {0}
+WritesAs w (Some a) = a.writes ≡ w
 
-pub writes_as : {w : Bool} (x : Option Access) {b : Access} → x ≡ some b → WritesAs w x → b.writes ≡ w
-writes_as none is h = absurd (none-ne-some _ is)
-writes_as (some c) is h = ap (λ (b : Access). b.writes) (sym (some-injective _ _ is)) ∙ h
+pub writes_as : {w : Bool} (x : Option Access) {b : Access} → x ≡ Some b → WritesAs w x → b.writes ≡ w
+writes_as None is h = absurd (none-ne-some _ is)
+writes_as (Some c) is h = ap (λ (b : Access). b.writes) (sym (some-injective _ _ is)) ∙ h
 
 action_writes : {P : Program} {r : ℕ} {registers : ℕ → ℕ} {c : Command} {a : Action} → Asks P r registers c a → (cells : ℕ → ℕ → ℕ) →
     WritesAs (writes_kind (kind_of c)) (access_of r a cells)
@@ -63,8 +64,8 @@ kind_writes a i e at = move_writes (move_at (run_of a).whole i e at).step
 
 -- An item whose event has an access is of a kind with a place, and has that place.
 abbrev Placed : Kind → Option Access → Type 0
-Placed k none = Unit {0}
-Placed k (some a) = has_place k ≡ true
+Placed k None = Unit {0}
+Placed k (Some a) = has_place k ≡ true
 
 action_placed : {P : Program} {r : ℕ} {registers : ℕ → ℕ} {c : Command} {a : Action} → Asks P r registers c a → (cells : ℕ → ℕ → ℕ) →
     Placed (kind_of c) (access_of r a cells)
@@ -85,10 +86,10 @@ move_placed (fetches i a rest c) = rw c.kind_is refl
 move_placed (delivers i b rest c) = rw c.kind_is refl
 
 pub item_placed : {P : Program} {start : Start} {run : Replayed} → RecordedRun P start run → (i : ℕ) (e : Event) → At run.events i e → {a : Access} →
-    e.access ≡ some a → (has_place e.item.kind ≡ true) × (e.item.place ≡ a.address)
+    e.access ≡ Some a → (has_place e.item.kind ≡ true) × (e.item.place ≡ a.address)
 unfolding agrees_with
 item_placed {P} {start} {run} r i e at {a} is =
-    let agreed : agrees_with e.item (some a) ≡ true =
+    let agreed : agrees_with e.item (Some a) ≡ true =
     ap (agrees_with e.item) (sym is) ∙ (facts P start r.items run r.in_record r.replayed).agrees i e at in (
       subst (Placed e.item.kind) is (move_placed (move_at (run_of r).whole i e at).step),
       same_address_true e.item.place a.address (and-true (same_address e.item.place a.address) (agrees e.item.given a.value) agreed).0,
@@ -96,14 +97,14 @@ item_placed {P} {start} {run} r i e at {a} is =
 
 -- Accesses of one cell that write alike are alike, as far as conflicts go.
 pub data WriteAlike : Option Access → Option Access → Type 0 where
-  neither : WriteAlike none none
-  both : (a b : Access) → a.address ≡ b.address → a.writes ≡ b.writes → WriteAlike (some a) (some b)
+  neither : WriteAlike None None
+  both : (a b : Access) → a.address ≡ b.address → a.writes ≡ b.writes → WriteAlike (Some a) (Some b)
 
 pub write_alike : (w : Bool) (x y : Option Access) → WritesAs w x → WritesAs w y → cell_in x ≡ cell_in y → WriteAlike x y
-write_alike w none none wx wy e = neither
-write_alike w none (some b) wx wy e = absurd (none-ne-some _ e)
-write_alike w (some a) none wx wy e = absurd (none-ne-some _ (sym e))
-write_alike w (some a) (some b) wx wy e = both a b (some-injective _ _ e) (wx ∙ sym wy)
+write_alike w None None wx wy e = neither
+write_alike w None (Some b) wx wy e = absurd (none-ne-some _ e)
+write_alike w (Some a) None wx wy e = absurd (none-ne-some _ (sym e))
+write_alike w (Some a) (Some b) wx wy e = both a b (some-injective _ _ e) (wx ∙ sym wy)
 
 pub conflict_same : {x x' y y' : Option Access} → WriteAlike x x' → WriteAlike y y' → conflict x y ≡ conflict x' y'
 unfolding conflict

@@ -1,14 +1,14 @@
 -- Two items of different ranks, neither a bar, whose accesses do not conflict, may be taken in either order: each is taken where the other was, since
 -- neither touches the other's rank nor the cell of its access; and both orders leave states that are alike but for the numbers of groups.
+use Rattle.std.specs.Prelude.{Option, Some, None}
 use Prim.Native.Nat.{ℕ}
 use mathlib.Core.Path.{◌≡◌, refl, sym, ◌∙◌, ap, subst}
 use mathlib.Core.Bool.{true, false, true≢false, false≢true}
-use mathlib.Core.Option.{Option, some, none}
 use lib.Dec.{eqb}
 use borrow.Author.Tests.{eqb-true, eqb-false}
 use Rattle.model.specs.declared.Address.{Address}
 use Rattle.model.specs.declared.Item.{Item}
-use Rattle.model.specs.Refusals.{ok}
+use Rattle.model.specs.Refusals.{Ok}
 use Rattle.model.specs.ItemKinds.{is_bar}
 use Rattle.model.specs.Programs.{Program}
 use Rattle.model.specs.Machine.{Access, address}
@@ -31,10 +31,10 @@ abbrev pub Like : Replay → Replay → Type 0
 Like = Related by_place EveryCell
 
 -- Accesses that do not conflict: where the one writes, the other is elsewhere.
-elsewhere : (x : Option Access) (a : Access) → conflict x (some a) ≡ false → writes_to a.address x ≡ false
+elsewhere : (x : Option Access) (a : Access) → conflict x (Some a) ≡ false → writes_to a.address x ≡ false
 unfolding conflict writes_to
-elsewhere none a h = refl
-elsewhere (some b) a h =
+elsewhere None a h = refl
+elsewhere (Some b) a h =
     decided (same_address a.address b.address)
     (λ same.
     let one : b.address ≡ a.address = sym (same_address_true a.address b.address same) in
@@ -43,8 +43,8 @@ elsewhere (some b) a h =
     (λ other. rw other refl)
 
 agree_after : (cells : ℕ → ℕ → ℕ) (x y : Option Access) → conflict x y ≡ false → AgreeAt y (written cells x) cells
-agree_after cells x none h = tt
-agree_after cells x (some a) h = written_elsewhere cells x a.address (elsewhere x a h)
+agree_after cells x None h = tt
+agree_after cells x (Some a) h = written_elsewhere cells x a.address (elsewhere x a h)
 
 -- Two such accesses leave the same cells in either order.
 written_both : (cells : ℕ → ℕ → ℕ) (x y : Option Access) → conflict x y ≡ false → (r c : ℕ) →
@@ -60,15 +60,15 @@ written_both cells x y h r c =
     written_agree cells (written cells y) x (address r c) (sym (written_elsewhere cells y (address r c) w)))
   where
     only_one : (x y : Option Access) → conflict x y ≡ false → (p : Address) → writes_to p y ≡ true → writes_to p x ≡ false
-    only_one x none h p w = absurd (false≢true w)
-    only_one x (some b) h p w =
+    only_one x None h p w = absurd (false≢true w)
+    only_one x (Some b) h p w =
         let (here, writes) = and-true (same_address p b.address) b.writes w in
         subst (λ q. writes_to q x ≡ false) (sym (same_address_true p b.address here)) (elsewhere x b h)
 
     written_same : (y : Option Access) (p : Address) → writes_to p y ≡ true → (cells others : ℕ → ℕ → ℕ) →
         written cells y p.rank p.cell ≡ written others y p.rank p.cell
-    written_same none p w cells others = absurd (false≢true w)
-    written_same (some b) p w cells others =
+    written_same None p w cells others = absurd (false≢true w)
+    written_same (Some b) p w cells others =
         let (here, writes) = and-true (same_address p b.address) b.writes w in
         let (rank, cell) = and-true (eqb p.rank b.address.rank) (eqb p.cell b.address.cell) here in
         rw (writes, true_and (eqb p.rank b.address.rank) (eqb p.cell b.address.cell) rank cell) refl
@@ -81,15 +81,15 @@ row_kept P s i (fetches a rest f) h = refl
 row_kept P s i (delivers b rest d) h = refl
 
 agree_sym : (x : Option Access) (cells others : ℕ → ℕ → ℕ) → AgreeAt x cells others → AgreeAt x others cells
-agree_sym none cells others h = tt
-agree_sym (some a) cells others h = sym h
+agree_sym None cells others h = tt
+agree_sym (Some a) cells others h = sym h
 
 -- Two items one after the other, and the same the other way round.
 pub record Exchanged (P : Program) (s : Replay) (x y : Item) (first second : Taken) : Type 0 where
   pub then : Taken
   pub last : Taken
-  pub takes_first : (at : ℕ) → take_item P s at y ≡ ok then
-  pub takes_second : (at : ℕ) → take_item P then.state at x ≡ ok last
+  pub takes_first : (at : ℕ) → take_item P s at y ≡ Ok then
+  pub takes_second : (at : ℕ) → take_item P then.state at x ≡ Ok last
   pub same_second : SameEvent by_place second.event then.event
   pub same_first : SameEvent by_place first.event last.event
   pub related : Like second.state last.state

@@ -2,11 +2,12 @@
 -- the same. By induction along the first record: a read finds the write that its counterpart finds, since conflicting accesses come in the same order; a
 -- rank that has loaded the same stands at the same place with the same registers, so its stores are the same; a delivery has its fetch's value. No plain
 -- run has a part in this, so it holds of records with a ring too.
+use Rattle.std.specs.Prelude.{Option, Some, None}
+use Rattle.model.proofs.Options.{none-ne-some, some-injective}
 use Prim.Native.Nat.{ℕ, zero, suc, ◌<◌}
 use mathlib.Core.Path.{◌≡◌, refl, sym, ◌∙◌, ap, ap₂, subst}
 use mathlib.Core.Bool.{true, false, true≢false, false≢true}
 use mathlib.Core.Logic.{◌↔◌}
-use mathlib.Core.Option.{Option, some, none, none-ne-some, some-injective}
 use native.Mathlib.Nat.{not-suc-le-zero}
 use native.Mathlib.Omega.{arith}
 use lib.ListN.{length, take, length-map}
@@ -21,7 +22,7 @@ use Rattle.model.specs.Replay.{Event, Replayed, same_address, access_of}
 use Rattle.model.specs.HappensBefore.{At, is_command, rank_of, conflict}
 use Rattle.model.specs.Traces.{cell_of, value_at, SameTrace, SameValues, command_of}
 use Rattle.model.proofs.Lists.{position}
-use Rattle.model.proofs.Laws.{decided, and-true, get_elem?_bound}
+use Rattle.model.proofs.Laws.{decided, and-true, slice_get_bound}
 use Rattle.model.proofs.Replay.{same_address_true, true_same_address}
 use Rattle.record_facts.specs.Facts.{Facts, Local, count_of, cells_after}
 use Rattle.record_facts.proofs.Counts.{counted}
@@ -36,21 +37,21 @@ use Rattle.traces.proofs.LastWrites.{Last, untouched, by, last}
 use Rattle.traces.proofs.Steps.{same_act, same_step, write_value, CommandAt, command_at_lem, previous, fetch_of_lem}
 
 -- Accesses of one cell, the first of which writes, conflict.
-writes_conflict : (p : Address) (x y : Option Access) → writes_to p x ≡ true → cell_in y ≡ some p →
+writes_conflict : (p : Address) (x y : Option Access) → writes_to p x ≡ true → cell_in y ≡ Some p →
     conflict x y ≡ true
 unfolding writes_to conflict
-writes_conflict p none y w h = absurd (false≢true w)
-writes_conflict p (some b) none w h = absurd (none-ne-some _ h)
-writes_conflict p (some b) (some c) w h =
+writes_conflict p None y w h = absurd (false≢true w)
+writes_conflict p (Some b) None w h = absurd (none-ne-some _ h)
+writes_conflict p (Some b) (Some c) w h =
     let (here, writes) = and-true (same_address p b.address) b.writes w in
     let same : b.address ≡ c.address = sym (same_address_true p b.address here) ∙ sym (some-injective _ _ h) in
     rw (writes, true_same_address b.address c.address same) refl
 
 both_write : (p : Address) (x y : Option Access) → writes_to p x ≡ true → writes_to p y ≡ true → conflict x y ≡ true
 unfolding writes_to
-both_write p x none wx wy = absurd (false≢true wy)
-both_write p x (some b) wx wy =
-    writes_conflict p x (some b) wx (ap some (sym (same_address_true p b.address (and-true (same_address p b.address) b.writes wy).0)))
+both_write p x None wx wy = absurd (false≢true wy)
+both_write p x (Some b) wx wy =
+    writes_conflict p x (Some b) wx (ap Some (sym (same_address_true p b.address (and-true (same_address p b.address) b.writes wy).0)))
 
 -- Two records with one trace.
 module _ {P : Program} {start : Start} {run run' : Replayed} (a : RecordedRun P start run) (a' : RecordedRun P start run')
@@ -107,10 +108,10 @@ module _ {P : Program} {start : Start} {run run' : Replayed} (a : RecordedRun P 
           (λ here. some-injective _ _ (sym value ∙ values w less ∙ ap value_at (at_unique f' w.second at' here) ∙ value'))
 
   -- What an access finds is the same in both.
-  cut_at : (p : Address) (w : Both) → cell_of w.x ≡ some p → Cut p w.i w.j
+  cut_at : (p : Address) (w : Both) → cell_of w.x ≡ Some p → Cut p w.i w.j
   cut_at p w is v writes = pair_order a a' trace v w (writes_conflict p v.x.access w.x.access writes is)
 
-  same_read : (w : Both) (b b' : Access) → b.address ≡ b'.address → w.x.access ≡ some b → w.y.access ≡ some b' → b.writes ≡ false →
+  same_read : (w : Both) (b b' : Access) → b.address ≡ b'.address → w.x.access ≡ Some b → w.y.access ≡ Some b' → b.writes ≡ false →
       b'.writes ≡ false → SameBefore w.i → b.value ≡ b'.value
   same_read w b b' same is is' reads reads' values =
       f.reads w.i w.x b w.first is reads ∙
@@ -144,7 +145,7 @@ module _ {P : Program} {start : Start} {run run' : Replayed} (a : RecordedRun P 
       (values (paired a a' trace d.i d.e d.at) before)
 
   -- A store's value goes by its rank's local state, and a delivery's is its fetch's.
-  same_store : (w : Both) → is_command w.x ≡ true → {b : Access} → w.x.access ≡ some b → b.writes ≡ true → SameBefore w.i → SameValue w
+  same_store : (w : Both) → is_command w.x ≡ true → {b : Access} → w.x.access ≡ Some b → b.writes ≡ true → SameBefore w.i → SameValue w
   same_store w c has writes values =
       let step = f.local_step w.i w.x w.first c in
       let step' = f'.local_step w.j w.y w.second (twin_command w c) in
@@ -169,7 +170,7 @@ module _ {P : Program} {start : Start} {run run' : Replayed} (a : RecordedRun P 
       }) in
       sym d.value ∙ values v d.before ∙ ap value_at (at_unique f' v.second d'.at one) ∙ d'.value
 
-  same_write : (w : Both) → {b : Access} → w.x.access ≡ some b → b.writes ≡ true → SameBefore w.i → SameValue w
+  same_write : (w : Both) → {b : Access} → w.x.access ≡ Some b → b.writes ≡ true → SameBefore w.i → SameValue w
   same_write w {b} has writes values = go (part_of w.x.item.kind) refl
     where
       go : (p : Part) → part_of w.x.item.kind ≡ p → SameValue w
@@ -188,7 +189,7 @@ module _ {P : Program} {start : Start} {run run' : Replayed} (a : RecordedRun P 
       go (both b b' cell alike) is is' =
           decided b.writes
           (λ writes. same_write w is writes values)
-          (λ reads. ap value_in is ∙ ap some (same_read w b b' cell is is' reads (sym alike ∙ reads) values) ∙ ap value_in (sym is'))
+          (λ reads. ap value_in is ∙ ap Some (same_read w b b' cell is is' reads (sym alike ∙ reads) values) ∙ ap value_in (sym is'))
 
   values_before : (n : ℕ) → SameBefore n
   values_before zero w less = absurd (not-suc-le-zero less)
@@ -203,7 +204,7 @@ module _ {P : Program} {start : Start} {run run' : Replayed} (a : RecordedRun P 
       f.cells_end rank cell ∙
       ap (λ l. cells_after start l rank cell) (sym (take-length run.events)) ∙
       same_cell_lem (address rank cell) (length run.events) (length run'.events)
-      (λ w writes. ((λ less. get_elem?_bound run'.events w.j w.second), (λ less. get_elem?_bound run.events w.i w.first)))
+      (λ w writes. ((λ less. slice_get_bound run'.events w.j w.second), (λ less. slice_get_bound run.events w.i w.first)))
       (values_before (length run.events)) ∙
       ap (λ l. cells_after start l rank cell) (take-length run'.events) ∙
       sym (f'.cells_end rank cell)

@@ -1,21 +1,21 @@
 -- Two neighbouring items of different ranks, neither a bar, whose accesses do not conflict, may change places in a record: what stands before them is
 -- taken as it was, they are taken in the other order, and what follows goes on alike, but for the numbers of two groups. The trace is the same.
+use Rattle.std.specs.Prelude.{Option, Some, None}
 use Prim.Native.Nat.{ℕ, suc, ◌+◌}
 use mathlib.Core.Path.{◌≡◌, refl, sym, ◌∙◌, ap, subst}
 use mathlib.Core.Bool.{false}
 use mathlib.Core.List.{List, [], ◌∷◌, ◌++◌}
-use mathlib.Core.Option.{Option, some, none}
 use native.Mathlib.Omega.{arith}
 use lib.ListN.{length, length-map}
 use Rattle.model.specs.declared.Item.{Item}
 use Rattle.model.specs.Choice.{Each, one}
-use Rattle.model.specs.Refusals.{ok}
+use Rattle.model.specs.Refusals.{Ok}
 use Rattle.model.specs.Programs.{Program}
 use Rattle.model.specs.Machine.{Start, Access}
 use Rattle.model.specs.Replay.{Event, Replay, Replayed, Taken, begin, take_items, replay}
 use Rattle.model.specs.HappensBefore.{At, conflict}
 use Rattle.model.specs.Traces.{SameTrace, InRecord}
-use Rattle.model.proofs.Laws.{bind_ok, ok_injective, get_elem?_behind}
+use Rattle.model.proofs.Laws.{bind_ok, ok_injective, slice_get_behind}
 use Rattle.model.proofs.Replay.{ItemTaken, item_taken}
 use Rattle.model.proofs.TakenItems.{headed, taken_onward, onward_taken, event_item, taken_items, joined, take_items_append, Ended, replay_taken}
 use Rattle.model.proofs.TakenItems.{taken_replay}
@@ -43,20 +43,20 @@ every_cared : (events : List Event) → AllCared by_place EveryCell events
 every_cared events i e at = any e.access
   where
     any : (x : Option Access) → CaredAt by_place EveryCell x
-    any none = tt
-    any (some a) = tt
+    any None = tt
+    any (Some a) = tt
 
 -- Two items and more, taken from a state, with the two exchanged.
 record Swapped (P : Program) (s : Replay) (at : ℕ) (x y : Item) (after : List Item) (run : Replayed) : Type 0 where
   too : Replayed
-  taken : take_items P s at (y ∷ x ∷ after) ≡ ok too
+  taken : take_items P s at (y ∷ x ∷ after) ≡ Ok too
   turned : Turned run.events too.events
   like : Like run.last too.last
 
 module _ (P : Program) (s : Replay) (at : ℕ) (x y : Item) (after : List Item) where
   -- The items taken one by one.
   swapped_each : (first second : Taken) (rest : Replayed) → ItemTaken P s x first → ItemTaken P first.state y second →
-      take_items P second.state (at + 1 + 1) after ≡ ok rest → Exchangeable (headed first (headed second rest)).events 0 x y →
+      take_items P second.state (at + 1 + 1) after ≡ Ok rest → Exchangeable (headed first (headed second rest)).events 0 x y →
       Swapped P s at x y after (headed first (headed second rest))
   swapped_each first second rest takes_x takes_y takes_rest may =
       let free : conflict first.event.access second.event.access ≡ false = may.no_conflict first.event second.event refl refl in
@@ -75,7 +75,7 @@ module _ (P : Program) (s : Replay) (at : ℕ) (x y : Item) (after : List Item) 
         like = later.related;
       }
 
-  swapped : {run : Replayed} → take_items P s at (x ∷ y ∷ after) ≡ ok run → Exchangeable run.events 0 x y → Swapped P s at x y after run
+  swapped : {run : Replayed} → take_items P s at (x ∷ y ∷ after) ≡ Ok run → Exchangeable run.events 0 x y → Swapped P s at x y after run
   swapped {run} h may =
       let o = taken_onward P s at x (y ∷ after) h in
       let o' = taken_onward P o.first.state (at + 1) y after o.takes_rest in
@@ -89,13 +89,13 @@ module _ (P : Program) (s : Replay) (at : ℕ) (x y : Item) (after : List Item) 
 module _ (P : Program) (start : Start) (before : List Item) (x y : Item) (after : List Item) where
   record ExchangedRun (run : Replayed) : Type 0 where
     too : Replayed
-    replayed : replay P start (before ++ y ∷ x ∷ after) ≡ ok too
+    replayed : replay P start (before ++ y ∷ x ∷ after) ≡ Ok too
     turned : Turned run.events too.events
     like : Like run.last too.last
 
   -- A front and the rest.
-  exchanged_behind : (front rest : Replayed) → take_items P (begin start) 0 before ≡ ok front →
-      take_items P front.last (0 + length before) (x ∷ y ∷ after) ≡ ok rest → Ended P (joined front rest) →
+  exchanged_behind : (front rest : Replayed) → take_items P (begin start) 0 before ≡ Ok front →
+      take_items P front.last (0 + length before) (x ∷ y ∷ after) ≡ Ok rest → Ended P (joined front rest) →
       Exchangeable (joined front rest).events (length before) x y → ExchangedRun (joined front rest)
   exchanged_behind front rest takes_front takes_rest ended may =
       let sw : Swapped P front.last (0 + length before) x y after rest = swapped P front.last (0 + length before) x y after takes_rest may_behind in
@@ -115,7 +115,7 @@ module _ (P : Program) (start : Start) (before : List Item) (x y : Item) (after 
 
       placed : (i k : ℕ) {e : Event} → length before + i ≡ k → At rest.events i e → At (joined front rest).events k e
       placed i k {e} is at =
-          subst (λ n. At (joined front rest).events n e) (ap (λ n. n + i) many ∙ is) (get_elem?_behind front.events rest.events i ∙ at)
+          subst (λ n. At (joined front rest).events n e) (ap (λ n. n + i) many ∙ is) (slice_get_behind front.events rest.events i ∙ at)
 
       may_behind : Exchangeable rest.events 0 x y
       may_behind =
@@ -126,7 +126,7 @@ module _ (P : Program) (start : Start) (before : List Item) (x y : Item) (after 
             no_conflict = λ e f ae af. may.no_conflict e f (placed 0 (length before) (omega arith) ae) (placed 1 (suc (length before)) (omega arith) af);
           }
 
-  exchanged_run : (run : Replayed) → replay P start (before ++ x ∷ y ∷ after) ≡ ok run → Exchangeable run.events (length before) x y →
+  exchanged_run : (run : Replayed) → replay P start (before ++ x ∷ y ∷ after) ≡ Ok run → Exchangeable run.events (length before) x y →
       ExchangedRun run
   exchanged_run run h may =
       let (taken, ended) = replay_taken P start (before ++ x ∷ y ∷ after) h in
@@ -146,9 +146,9 @@ each_exchanged (b ∷ before) x y after (one h rest) = one h (each_exchanged bef
 
 -- The theorem: the exchanged record is accepted, and its trace is the same.
 pub exchange : (P : Program) (start : Start) (before : List Item) (x y : Item) (after : List Item) (run : Replayed) →
-    Each (InRecord P.header) (before ++ x ∷ y ∷ after) → replay P start (before ++ x ∷ y ∷ after) ≡ ok run →
+    Each (InRecord P.header) (before ++ x ∷ y ∷ after) → replay P start (before ++ x ∷ y ∷ after) ≡ Ok run →
     Exchangeable run.events (length before) x y →
-    (too : Replayed) × (replay P start (before ++ y ∷ x ∷ after) ≡ ok too) × SameTrace run.events too.events
+    (too : Replayed) × (replay P start (before ++ y ∷ x ∷ after) ≡ Ok too) × SameTrace run.events too.events
 exchange P start before x y after run each h may =
     let e = exchanged_run P start before x y after run h may in (
       e.too,

@@ -1,14 +1,14 @@
 -- Two states that agree on every rank, and on the cells that the items to come access, go on alike: the same items are taken, into events that are the
 -- same as they are seen.
+use Rattle.std.specs.Prelude.{Option, Some, None}
 use Prim.Native.Nat.{ℕ, suc, ◌+◌}
 use mathlib.Core.Path.{◌≡◌, refl, sym, ◌∙◌, ap, ap₂, subst, fun_ext}
 use mathlib.Core.Bool.{Bool, ◌&&◌}
 use mathlib.Core.List.{List, [], ◌∷◌, map}
-use mathlib.Core.Option.{Option, some, none}
 use lib.Dec.{eqb}
 use borrow.Author.Tests.{eqb-true, eqb-false}
 use Rattle.model.specs.declared.Item.{Item}
-use Rattle.model.specs.Refusals.{ok}
+use Rattle.model.specs.Refusals.{Ok}
 use Rattle.model.specs.Choice.{numbers_from}
 use Rattle.model.specs.Programs.{Program}
 use Rattle.model.specs.Machine.{Access, address}
@@ -83,15 +83,15 @@ module _ (view : View) where
 
     -- An access at a cell that is cared about, and events all of whose accesses are.
     abbrev pub CaredAt : Option Access → Type 0
-    CaredAt none = Unit {0}
-    CaredAt (some a) = Cared a.address.rank a.address.cell
+    CaredAt None = Unit {0}
+    CaredAt (Some a) = Cared a.address.rank a.address.cell
 
     abbrev pub AllCared : List Event → Type 0
     AllCared events = (i : ℕ) (e : Event) → At events i e → CaredAt e.access
 
     agree_at : {s t : Replay} → Related s t → (x : Option Access) → CaredAt x → AgreeAt x s.machine.cells t.machine.cells
-    agree_at h none cared = tt
-    agree_at h (some a) cared = h.cells a.address.rank a.address.cell cared
+    agree_at h None cared = tt
+    agree_at h (Some a) cared = h.cells a.address.rank a.address.cell cared
 
     evenly : {i : Item} {o a o' a' : ℕ} → Opened view i o a o' a' → view.Even o o' → view.Even a a'
     evenly {i} {o} {a} {o'} {a'} (opens p q) even = rw (p, q) (view.stays i o o' even)
@@ -100,11 +100,11 @@ module _ (view : View) where
     -- One item.
     record StepToo (P : Program) (t : Replay) (i : Item) (after : Taken) : Type 0 where
       too : Taken
-      taken : (at : ℕ) → take_item P t at i ≡ ok too
+      taken : (at : ℕ) → take_item P t at i ≡ Ok too
       event : SameEvent view after.event too.event
       related : Related after.state too.state
 
-    step_too : (P : Program) (s t : Replay) (at : ℕ) (i : Item) {after : Taken} → Related s t → take_item P s at i ≡ ok after →
+    step_too : (P : Program) (s t : Replay) (at : ℕ) (i : Item) {after : Taken} → Related s t → take_item P s at i ≡ Ok after →
         CaredAt after.event.access → StepToo P t i after
     step_too P s t at i {after} h taken cared =
         let item : ItemTaken P s i after = item_taken P s at i taken in
@@ -140,7 +140,7 @@ module _ (view : View) where
     -- All items that are still to come.
     pub record RunToo (P : Program) (t : Replay) (at : ℕ) (items : List Item) (run : Replayed) : Type 0 where
       pub too : Replayed
-      pub taken : take_items P t at items ≡ ok too
+      pub taken : take_items P t at items ≡ Ok too
       pub events : AllSame run.events too.events
       pub related : Related run.last too.last
 
@@ -154,7 +154,7 @@ module _ (view : View) where
           related = later.related;
         }
 
-    pub follow : (P : Program) (items : List Item) (s t : Replay) (at at' : ℕ) {run : Replayed} → Related s t → take_items P s at items ≡ ok run →
+    pub follow : (P : Program) (items : List Item) (s t : Replay) (at at' : ℕ) {run : Replayed} → Related s t → take_items P s at items ≡ Ok run →
         AllCared run.events → RunToo P t at' items run
     unfolding take_items
     follow P [] s t at at' h taken cared =

@@ -1,9 +1,10 @@
 -- What a cell holds after some events: the value of the last write to it, or what it held at the start if there is none.
+use Rattle.std.specs.Prelude.{Option, Some, None}
+use Rattle.model.proofs.Options.{none-ne-some, some-injective}
 use Prim.Native.Nat.{ℕ, zero, suc, ◌<◌}
 use mathlib.Core.Path.{◌≡◌, refl, sym, ◌∙◌, ap}
 use mathlib.Core.Bool.{true, false, false≢true}
 use mathlib.Core.List.{List, [], ◌∷◌}
-use mathlib.Core.Option.{Option, some, none, none-ne-some, some-injective}
 use native.Mathlib.Nat.{not-suc-le-zero, le_of_suc-le-suc}
 use native.Mathlib.Omega.{arith}
 use lib.ListN.{length, take}
@@ -26,14 +27,14 @@ pub data Last (start : Start) (events : List Event) (i : ℕ) (p : Address) : Ty
       cells_after start (take i events) p.rank p.cell ≡ start p.rank p.cell → Last start events i p
   by : (k : ℕ) (z : Event) → k < i → At events k z → writes_to p z.access ≡ true →
       ((m : ℕ) (y : Event) → k < m → m < i → At events m y → writes_to p y.access ≡ false) →
-      value_at z ≡ some (cells_after start (take i events) p.rank p.cell) → Last start events i p
+      value_at z ≡ Some (cells_after start (take i events) p.rank p.cell) → Last start events i p
 
 -- A write puts its value there.
 written_here : (cells : Start) (x : Option Access) (p : Address) → writes_to p x ≡ true →
-    value_in x ≡ some (written cells x p.rank p.cell)
+    value_in x ≡ Some (written cells x p.rank p.cell)
 unfolding writes_to written put₂
-written_here cells none p h = absurd (false≢true h)
-written_here cells (some b) p h =
+written_here cells None p h = absurd (false≢true h)
+written_here cells (Some b) p h =
     let (here, writes) = and-true (same_address p b.address) b.writes h in
     rw (writes, here) refl
 
@@ -55,7 +56,7 @@ last start (e ∷ events) (suc i) p = go (last (written start e.access) events i
         decided (writes_to p e.access)
         (λ w.
         by 0 e (omega arith) refl w (first none_writes)
-        (written_here start e.access p w ∙ ap some (sym same)))
+        (written_here start e.access p w ∙ ap Some (sym same)))
         (λ w. untouched (also none_writes w) (same ∙ written_elsewhere start e.access p w))
       where
         first : ((k : ℕ) (z : Event) → k < i → At events k z → writes_to p z.access ≡ false) →
@@ -69,10 +70,10 @@ last start (e ∷ events) (suc i) p = go (last (written start e.access) events i
         also h w (suc k) z less at = h k z (le_of_suc-le-suc less) at
 
 -- A cell that no event accesses holds at the end what it held at the start.
-writes_access : (p : Address) (x : Option Access) → writes_to p x ≡ true → (a : Access) × (x ≡ some a) × (a.address ≡ p)
+writes_access : (p : Address) (x : Option Access) → writes_to p x ≡ true → (a : Access) × (x ≡ Some a) × (a.address ≡ p)
 unfolding writes_to
-writes_access p none h = absurd (false≢true h)
-writes_access p (some a) h = (a, refl, sym (same_address_true p a.address (and-true (same_address p a.address) a.writes h).0))
+writes_access p None h = absurd (false≢true h)
+writes_access p (Some a) h = (a, refl, sym (same_address_true p a.address (and-true (same_address p a.address) a.writes h).0))
 
 pub never_accessed : (start : Start) (events : List Event) (rank cell : ℕ) → ¬ (Accesses events rank cell) →
     cells_after start events rank cell ≡ start rank cell

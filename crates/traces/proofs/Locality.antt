@@ -1,15 +1,16 @@
 -- What an item does depends on its own rank alone, and on the cell that it reads; and it changes nothing but its own rank, and the cell that it
 -- writes. So an item that is taken in one state is taken in every state that agrees with it there.
+use Rattle.model.specs.declared.Action.TheVariants.{Loads, Stores, Assigns, Passes, Issues, Meets}
+use Rattle.std.specs.Prelude.{Option, Some, None}
 use Prim.Native.Nat.{ℕ, ◌+◌}
 use mathlib.Core.Path.{◌≡◌, refl, sym, ◌∙◌, ap, ap₂}
 use mathlib.Core.Bool.{true}
 use mathlib.Core.List.{List, [], ◌∷◌, ◌++◌, map, map-append}
-use mathlib.Core.Option.{Option, some, none}
 use lib.Dec.{eqb}
 use Rattle.model.specs.declared.Item.{Item}
 use Rattle.model.specs.Programs.{Program, Transition}
 use Rattle.model.specs.Machine.{State, Request, Delivery, Access, read_of, write_of, address, cell_at, put, put₂, move_to, set_register, set_cell}
-use Rattle.model.specs.Machine.{set_requests, set_deliveries, Action, loads, stores, assigns, passes, issues, meets, action}
+use Rattle.model.specs.Machine.{set_requests, set_deliveries, Action, action}
 use Rattle.model.specs.Replay.{Event, Origin, Replay, Taken, row_allows, row_after, opened_after, agrees_with, access_of, perform, origin_of}
 use Rattle.model.specs.Replay.{after_command, after_fetch, after_delivery, request_for, delivery_for, oldest}
 use Rattle.model.proofs.Laws.{decided, put_same, put_other, put₂_row, put₂_other_row}
@@ -32,36 +33,36 @@ rows_alike look f g r i v w same here j = rw (put₂_row f r i v, put₂_row g r
 
 -- The cells agree where an access is; then it is the same access.
 abbrev pub AgreeAt : Option Access → (cells others : ℕ → ℕ → ℕ) → Type 0
-AgreeAt none cells others = Unit {0}
-AgreeAt (some a) cells others = cell_at cells a.address ≡ cell_at others a.address
+AgreeAt None cells others = Unit {0}
+AgreeAt (Some a) cells others = cell_at cells a.address ≡ cell_at others a.address
 
 access_same : (r : ℕ) (a : Action) (cells others : ℕ → ℕ → ℕ) → AgreeAt (access_of r a cells) cells others → access_of r a cells ≡ access_of r a others
 unfolding access_of
-access_same r (loads x c) cells others agree = ap (λ v. read_of (address r c) v) agree
-access_same r (stores c v) cells others agree = refl
-access_same r (assigns x v) cells others agree = refl
-access_same r passes cells others agree = refl
-access_same r (issues q remote source destination) cells others agree = refl
-access_same r meets cells others agree = refl
+access_same r (Loads x c) cells others agree = ap (λ v. read_of (address r c) v) agree
+access_same r (Stores c v) cells others agree = refl
+access_same r (Assigns x v) cells others agree = refl
+access_same r Passes cells others agree = refl
+access_same r (Issues q remote source destination) cells others agree = refl
+access_same r Meets cells others agree = refl
 
 -- No action touches the deliveries, and each leaves other ranks' requests as they were.
 deliveries_kept : (r : ℕ) (o : Origin) (a : Action) (m : State Origin) → (perform r o a m).deliveries ≡ m.deliveries
 unfolding perform set_register set_cell set_requests
-deliveries_kept r o (loads x c) m = refl
-deliveries_kept r o (stores c v) m = refl
-deliveries_kept r o (assigns x v) m = refl
-deliveries_kept r o passes m = refl
-deliveries_kept r o (issues q remote source destination) m = refl
-deliveries_kept r o meets m = refl
+deliveries_kept r o (Loads x c) m = refl
+deliveries_kept r o (Stores c v) m = refl
+deliveries_kept r o (Assigns x v) m = refl
+deliveries_kept r o Passes m = refl
+deliveries_kept r o (Issues q remote source destination) m = refl
+deliveries_kept r o Meets m = refl
 
 requests_kept : (r : ℕ) (o : Origin) (a : Action) (m : State Origin) (k : ℕ) → ¬ (k ≡ r) → (perform r o a m).requests k ≡ m.requests k
 unfolding perform set_register set_cell set_requests
-requests_kept r o (loads x c) m k other = refl
-requests_kept r o (stores c v) m k other = refl
-requests_kept r o (assigns x v) m k other = refl
-requests_kept r o passes m k other = refl
-requests_kept r o (issues q remote source destination) m k other = put₂_other_row m.requests r q _ k other
-requests_kept r o meets m k other = refl
+requests_kept r o (Loads x c) m k other = refl
+requests_kept r o (Stores c v) m k other = refl
+requests_kept r o (Assigns x v) m k other = refl
+requests_kept r o Passes m k other = refl
+requests_kept r o (Issues q remote source destination) m k other = put₂_other_row m.requests r q _ k other
+requests_kept r o Meets m k other = refl
 
 module _ (view : View) where
   -- An entry as it is seen.
@@ -117,26 +118,26 @@ module _ (view : View) where
     performed : (a : Action) → AgreeAt (access_of i.rank a s.machine.cells) s.machine.cells t.machine.cells →
         Left (perform i.rank (origin_of s i) a s.machine) (perform i.rank (origin_of t i) a t.machine)
     unfolding perform set_register set_cell set_requests access_of
-    performed (loads x c) agree = (
+    performed (Loads x c) agree = (
       put₂_row s.machine.registers i.rank x _ ∙ ap₂ (λ f v. put f x v) same.registers agree ∙
           sym (put₂_row t.machine.registers i.rank x _),
       same.requests,
     )
-    performed (stores c v) agree = (same.registers, same.requests)
-    performed (assigns x v) agree = (
+    performed (Stores c v) agree = (same.registers, same.requests)
+    performed (Assigns x v) agree = (
       put₂_row s.machine.registers i.rank x v ∙ ap (λ f. put f x v) same.registers ∙
           sym (put₂_row t.machine.registers i.rank x v),
       same.requests,
     )
-    performed passes agree = (same.registers, same.requests)
-    performed (issues q remote source destination) agree = (
+    performed Passes agree = (same.registers, same.requests)
+    performed (Issues q remote source destination) agree = (
       same.registers,
       rows_alike (map seen_request) s.machine.requests t.machine.requests i.rank q _ _ same.requests
           (map-append seen_request (s.machine.requests i.rank q) _ ∙
           ap₂ (λ l m. l ++ record { remote = remote; source = source; destination = destination; mark = m } ∷ []) (same.requests q) origin ∙
           sym (map-append seen_request (t.machine.requests i.rank q) _)),
     )
-    performed meets agree = (same.registers, same.requests)
+    performed Meets agree = (same.registers, same.requests)
 
     command_too : (tr : Transition) (a : Action) → CommandTaken P s i tr a →
         AgreeAt (access_of i.rank a s.machine.cells) s.machine.cells t.machine.cells →

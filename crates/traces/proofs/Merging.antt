@@ -1,25 +1,26 @@
 -- Any merge of the same logs is as good as another. The first item of the other merge stands in this one behind items of other ranks, none a bar and
 -- none in conflict with it. So exchanges of neighbours bring it to the front, and then the same is done with the rest.
+use Rattle.std.specs.Prelude.{Option, Some, None, slice_get}
+use Rattle.model.proofs.Options.{some-injective}
 use Prim.Native.Nat.{ℕ, suc, ◌+◌}
 use mathlib.Core.Path.{◌≡◌, refl, sym, ◌∙◌, ap, subst}
 use mathlib.Core.Bool.{Bool, true, false, ◌&&◌, ◌||◌, true≢false}
 use mathlib.Core.List.{List, [], ◌∷◌, ◌++◌, append_assoc}
-use mathlib.Core.Option.{Option, some, none, some-injective}
 use native.Mathlib.Omega.{arith}
 use lib.Dec.{eqb}
-use lib.ListN.{length, get_elem?}
+use lib.ListN.{length}
 use borrow.Author.Tests.{eqb-false}
 use Rattle.model.specs.declared.Address.{Address}
 use Rattle.model.specs.declared.Item.{Item}
 use Rattle.model.specs.Choice.{select, Each, all, one}
-use Rattle.model.specs.Refusals.{ok}
+use Rattle.model.specs.Refusals.{Ok}
 use Rattle.model.specs.ItemKinds.{is_bar, has_place}
 use Rattle.model.specs.Programs.{Program}
 use Rattle.model.specs.Machine.{Start, Access}
 use Rattle.model.specs.Replay.{Event, Replayed, replay, same_address}
 use Rattle.model.specs.HappensBefore.{At, conflict, same_cell, either_writes}
 use Rattle.model.specs.Traces.{SameTrace, InRecord}
-use Rattle.model.proofs.Laws.{decided, and-true, true_and, eqb_refl, get_elem?_map, get_elem?_behind, each_weaker}
+use Rattle.model.proofs.Laws.{decided, and-true, true_and, eqb_refl, slice_get_map, slice_get_behind, each_weaker}
 use Rattle.model.proofs.Selections.{select_yes, select_no, select_append, split_at}
 use Rattle.model.proofs.Replay.{same_address_true, true_same_address}
 use Rattle.traces.specs.Claims.{RecordedRun, Exchangeable, writes_kind, in_log, at_cell, SameLogs}
@@ -86,10 +87,10 @@ module _ {A : Type 0} (p : A → Bool) where
     taken_out rest other h =
         decided (p x)
         (λ t.
-        let none : select p u ≡ [] = none_selected (others_fail other (h ∙ select_yes p x rest t)) in
-        select_append p u v ∙ ap (λ l. l ++ select p v) none ∙
+        let None : select p u ≡ [] = none_selected (others_fail other (h ∙ select_yes p x rest t)) in
+        select_append p u v ∙ ap (λ l. l ++ select p v) None ∙
         rest_same
-        (sym (select_yes p x v t) ∙ ap (λ l. l ++ select p (x ∷ v)) (sym none) ∙ sym (select_append p u (x ∷ v)) ∙ h ∙ select_yes p x rest t))
+        (sym (select_yes p x v t) ∙ ap (λ l. l ++ select p (x ∷ v)) (sym None) ∙ sym (select_append p u (x ∷ v)) ∙ h ∙ select_yes p x rest t))
         (λ t.
         select_append p u v ∙ ap (λ l. select p u ++ l) (sym (select_no p x v t)) ∙ sym (select_append p u (x ∷ v)) ∙ h ∙ select_no p x rest t)
 
@@ -123,7 +124,7 @@ own_at p i placed here = at_cell_lem p i.rank i placed here (or_second (writes_k
 pub record Merged (P : Program) (start : Start) (items : List Item) (run : Replayed) : Type 0 where
   pub too : Replayed
   pub in_record : Each (InRecord P.header) items
-  pub replayed : replay P start items ≡ ok too
+  pub replayed : replay P start items ≡ Ok too
   pub trace : SameTrace run.events too.events
 
 module _ {P : Program} {start : Start} where
@@ -137,9 +138,9 @@ module _ {P : Program} {start : Start} where
   no_conflict {run} a i j e f ae af passed = decided (conflict e.access f.access) (λ t. absurd (go e.access f.access refl refl t)) (λ t. t)
     where
       go : (x y : Option Access) → e.access ≡ x → f.access ≡ y → ¬ (conflict x y ≡ true)
-      go none y is is' t = absurd (true≢false (sym t))
-      go (some b) none is is' t = absurd (true≢false (sym t))
-      go (some b) (some c) is is' t =
+      go None y is is' t = absurd (true≢false (sym t))
+      go (Some b) None is is' t = absurd (true≢false (sym t))
+      go (Some b) (Some c) is is' t =
           let (cell, writes) = and-true (same_cell b c) (either_writes b c) t in
           let (placed, here) = item_placed a i e ae is in
           let (placed', here') = item_placed a j f af is' in
@@ -168,17 +169,17 @@ module _ {P : Program} {start : Start} where
         trace = same_trace_trans a (record_of m) (record { items = before ++ x ∷ y ∷ after; in_record = each; replayed = replayed }) m.trace trace;
       }
     where
-      first : get_elem? (before ++ y ∷ x ∷ after) (length before) ≡ some y
+      first : slice_get (before ++ y ∷ x ∷ after) (length before) ≡ Some y
       first = split_at before y (x ∷ after)
 
-      second : get_elem? (before ++ y ∷ x ∷ after) (suc (length before)) ≡ some x
-      second = let is : suc (length before) ≡ length before + 1 = omega arith in rw is (get_elem?_behind before (y ∷ x ∷ after) 1)
+      second : slice_get (before ++ y ∷ x ∷ after) (suc (length before)) ≡ Some x
+      second = let is : suc (length before) ≡ length before + 1 = omega arith in rw is (slice_get_behind before (y ∷ x ∷ after) 1)
 
       -- An event is its item's.
-      item_is : (i : ℕ) {e : Event} {z : Item} → At m.too.events i e → get_elem? (before ++ y ∷ x ∷ after) i ≡ some z → e.item ≡ z
+      item_is : (i : ℕ) {e : Event} {z : Item} → At m.too.events i e → slice_get (before ++ y ∷ x ∷ after) i ≡ Some z → e.item ≡ z
       item_is i ae is =
           some-injective _ _
-          (sym (get_elem?_map (λ e. e.item) m.too.events i ae) ∙ ap (λ l. get_elem? l i) (facts_of (record_of m)).items_of ∙ is)
+          (sym (slice_get_map (λ e. e.item) m.too.events i ae) ∙ ap (λ l. slice_get l i) (facts_of (record_of m)).items_of ∙ is)
 
       may : Exchangeable m.too.events (length before) y x
       may =
@@ -257,37 +258,37 @@ nothing_left (y ∷ items) same =
 
 -- The theorem, first with the same items before both.
 module _ {P : Program} {start : Start} where
-  itself : {items : List Item} {run : Replayed} → Each (InRecord P.header) items → replay P start items ≡ ok run → Merged P start items run
+  itself : {items : List Item} {run : Replayed} → Each (InRecord P.header) items → replay P start items ≡ Ok run → Merged P start items run
   itself {items} {run} each h =
       record { too = run; in_record = each; replayed = h; trace = same_trace_refl (record { items = items; in_record = each; replayed = h }) }
 
   -- The first item of the other merge is brought to the front.
   fronted : (before : List Item) (x : Item) (rest u v : List Item) (run : Replayed) → Each (λ y. in_log x.rank y ≡ false) u →
-      SameLogs (u ++ x ∷ v) (x ∷ rest) → Each (InRecord P.header) (before ++ (u ++ x ∷ v)) → replay P start (before ++ (u ++ x ∷ v)) ≡ ok run →
+      SameLogs (u ++ x ∷ v) (x ∷ rest) → Each (InRecord P.header) (before ++ (u ++ x ∷ v)) → replay P start (before ++ (u ++ x ∷ v)) ≡ Ok run →
       Merged P start (before ++ x ∷ (u ++ v)) run
   fronted before x rest u v run fail same each h =
       let now : Merged P start (before ++ (u ++ x ∷ v)) run = itself each h in
       decided (is_bar x.kind)
       (λ bar.
-      let none : u ≡ [] = bar_first x rest u v fail same bar in
-      subst (λ w. Merged P start (before ++ x ∷ (w ++ v)) run) (sym none) (subst (λ w. Merged P start (before ++ (w ++ x ∷ v)) run) none now))
+      let None : u ≡ [] = bar_first x rest u v fail same bar in
+      subst (λ w. Merged P start (before ++ x ∷ (w ++ v)) run) (sym None) (subst (λ w. Merged P start (before ++ (w ++ x ∷ v)) run) None now))
       (λ no_bar.
       pass_all before u x v no_bar (passed_all x rest u v fail same)
       (record { items = before ++ (u ++ x ∷ v); in_record = each; replayed = h }) now)
 
   merged_behind : (others before items : List Item) (run : Replayed) → Each (InRecord P.header) (before ++ items) →
-      replay P start (before ++ items) ≡ ok run → SameLogs items others → Merged P start (before ++ others) run
+      replay P start (before ++ items) ≡ Ok run → SameLogs items others → Merged P start (before ++ others) run
   merged_behind [] before items run each h same = subst (λ l. Merged P start (before ++ l) run) (nothing_left items same) (itself each h)
   merged_behind (x ∷ rest) before items run each h same =
       let f = first_in_lem (in_log x.rank) items (same.ranks x.rank ∙ select_yes (in_log x.rank) x rest (own_log x)) in
       go f.before f.after f.fail (subst (λ l. SameLogs l (x ∷ rest)) (sym f.stands) same)
       (subst (λ l. Each (InRecord P.header) (before ++ l)) (sym f.stands) each)
-      (subst (λ l. replay P start (before ++ l) ≡ ok run) (sym f.stands) h)
+      (subst (λ l. replay P start (before ++ l) ≡ Ok run) (sym f.stands) h)
       (λ left. merged_behind rest (before ++ x ∷ []) left)
     where
       go : (u v : List Item) → Each (λ y. in_log x.rank y ≡ false) u → SameLogs (u ++ x ∷ v) (x ∷ rest) →
-          Each (InRecord P.header) (before ++ (u ++ x ∷ v)) → replay P start (before ++ (u ++ x ∷ v)) ≡ ok run →
-          ((left : List Item) (r : Replayed) → Each (InRecord P.header) ((before ++ x ∷ []) ++ left) → replay P start ((before ++ x ∷ []) ++ left) ≡ ok r →
+          Each (InRecord P.header) (before ++ (u ++ x ∷ v)) → replay P start (before ++ (u ++ x ∷ v)) ≡ Ok run →
+          ((left : List Item) (r : Replayed) → Each (InRecord P.header) ((before ++ x ∷ []) ++ left) → replay P start ((before ++ x ∷ []) ++ left) ≡ Ok r →
           SameLogs left rest → Merged P start ((before ++ x ∷ []) ++ rest) r) →
           Merged P start (before ++ x ∷ rest) run
       go u v fail same each h later =
@@ -295,7 +296,7 @@ module _ {P : Program} {start : Start} where
           let apart = sym (append_assoc before (x ∷ []) (u ++ v)) in
           let r : Merged P start ((before ++ x ∷ []) ++ rest) m.too =
           later (u ++ v) m.too (subst (Each (InRecord P.header)) apart m.in_record)
-          (subst (λ l. replay P start l ≡ ok m.too) apart m.replayed) (left_same x rest u v fail same) in
+          (subst (λ l. replay P start l ≡ Ok m.too) apart m.replayed) (left_same x rest u v fail same) in
           subst (λ l. Merged P start l run) (append_assoc before (x ∷ []) rest)
           (record {
             too = r.too;
@@ -305,6 +306,6 @@ module _ {P : Program} {start : Start} where
                 same_trace_trans (record { items = before ++ (u ++ x ∷ v); in_record = each; replayed = h }) (record_of m) (record_of r) m.trace r.trace;
           })
 
-  pub merged : (items others : List Item) (run : Replayed) → Each (InRecord P.header) items → replay P start items ≡ ok run → SameLogs items others →
+  pub merged : (items others : List Item) (run : Replayed) → Each (InRecord P.header) items → replay P start items ≡ Ok run → SameLogs items others →
       Merged P start others run
   merged items others run = merged_behind others [] items run

@@ -1,12 +1,12 @@
 -- A record that never accesses a cell is accepted whatever that cell holds at the start, with the same events, so with the same order or ring.
+use Rattle.std.specs.Prelude.{Option, Some, None}
 use Prim.Native.Nat.{ℕ}
 use mathlib.Core.Path.{◌≡◌, refl, ap, ap₂}
 use mathlib.Core.List.{List, ◌∷◌}
-use mathlib.Core.Option.{Option, some, none}
 use lib.Dec.{eqb}
 use borrow.Author.Tests.{eqb-true, eqb-false}
 use Rattle.model.specs.declared.Item.{Item}
-use Rattle.model.specs.Refusals.{ok}
+use Rattle.model.specs.Refusals.{Ok}
 use Rattle.model.specs.Programs.{Program}
 use Rattle.model.specs.Machine.{Start, Access, initial}
 use Rattle.model.specs.Replay.{Event, Origin, Replayed, begin, replay}
@@ -52,8 +52,8 @@ module _ (P : Program) (start other : Start) where
   all_cared events differ i e at = at_access e.access refl
     where
       at_access : (x : Option Access) → e.access ≡ x → CaredAt whole Same x
-      at_access none is = tt
-      at_access (some a) is =
+      at_access None is = tt
+      at_access (Some a) is =
           let rank : ℕ = a.address.rank in
           let cell : ℕ = a.address.cell in
           decided (eqb (start rank cell) (other rank cell))
@@ -65,14 +65,14 @@ module _ (P : Program) (start other : Start) where
   -- The record from the other start.
   pub record FromOther (items : List Item) (run : Replayed) : Type 0 where
     pub too : Replayed
-    pub replayed : replay P other items ≡ ok too
+    pub replayed : replay P other items ≡ Ok too
     pub events : run.events ≡ too.events
     pub opened : run.last.opened ≡ too.last.opened
     pub cells : (rank cell : ℕ) → start rank cell ≡ other rank cell → run.last.machine.cells rank cell ≡ too.last.machine.cells rank cell
     pub registers : (rank : ℕ) → run.last.machine.registers rank ≡ too.last.machine.registers rank
     pub taken : (rank : ℕ) → run.last.taken rank ≡ too.last.taken rank
 
-  pub from_other : (items : List Item) (run : Replayed) → replay P start items ≡ ok run → DifferOffAccesses start other run.events →
+  pub from_other : (items : List Item) (run : Replayed) → replay P start items ≡ Ok run → DifferOffAccesses start other run.events →
       FromOther items run
   from_other items run h differ =
       let (taken, ended) = replay_taken P start items h in

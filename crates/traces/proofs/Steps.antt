@@ -1,25 +1,27 @@
 -- What a rank does alike in two runs. A command takes the same local state to the same, if it loads the same; what it writes does not depend on what it
 -- loads; and a delivery has the value of its fetch, which stands before it.
+use Rattle.model.specs.declared.Action.TheVariants.{Loads, Stores, Assigns, Passes, Issues, Meets}
+use Rattle.std.specs.Prelude.{Option, Some, slice_get}
+use Rattle.model.proofs.Options.{none-ne-some, some-injective}
 use Prim.Native.Nat.{ℕ, zero, suc, ◌<◌}
 use mathlib.Core.Path.{◌≡◌, refl, sym, ◌∙◌, ap, ap₂}
 use mathlib.Core.Bool.{true, true≢false, false≢true}
 use mathlib.Core.List.{List}
-use mathlib.Core.Option.{Option, some, none-ne-some, some-injective}
 use native.Mathlib.Omega.{arith}
 use lib.Dec.{eqb}
-use lib.ListN.{length, take, get_elem?}
+use lib.ListN.{length, take}
 use borrow.Author.Tests.{eq-eqb, eqb-true}
 use Rattle.model.specs.declared.Item.{Item}
 use Rattle.model.specs.declared.Kind.TheVariants.{Popa, Popb}
 use Rattle.model.specs.Choice.{select}
 use Rattle.model.specs.ItemKinds.{is_transfer, part_of}
 use Rattle.model.specs.Programs.{Program, Transition}
-use Rattle.model.specs.Machine.{Start, Access, put, Action, loads, stores, assigns, passes, issues, meets, action}
+use Rattle.model.specs.Machine.{Start, Access, put, Action, action}
 use Rattle.model.specs.Replay.{Event, Replayed, access_of}
 use Rattle.model.specs.HappensBefore.{At, is_command, rank_of}
 use Rattle.model.specs.Traces.{value_at, command_of}
 use Rattle.model.specs.Checks.{in_group}
-use Rattle.model.proofs.Laws.{and-true, ok_injective, get_elem?_bound, get_elem?_below, each_at}
+use Rattle.model.proofs.Laws.{and-true, ok_injective, slice_get_bound, slice_get_below, each_at}
 use Rattle.model.proofs.Selections.{select_at, select_from, Selected, selected_rises}
 use Rattle.record_facts.specs.Facts.{Facts, Local, CommandStep, Shape, single, transfer, row, count_of, registers_after}
 use Rattle.serializability.proofs.Projections.{command_of_true}
@@ -32,20 +34,20 @@ use Rattle.traces.proofs.Accesses.{value_in}
 registers_same : (a : Action) (v v' r r' : ℕ) {x x' : Option Access} → x ≡ access_of r a (λ _ _. v) → x' ≡ access_of r' a (λ _ _. v') →
     value_in x ≡ value_in x' → (registers : ℕ → ℕ) → registers_after a v registers ≡ registers_after a v' registers
 unfolding registers_after access_of
-registers_same (loads y c) v v' r r' p p' same registers =
+registers_same (Loads y c) v v' r r' p p' same registers =
     ap (put registers y) (some-injective v v' (ap value_in (sym p) ∙ same ∙ ap value_in p'))
-registers_same (stores c w) v v' r r' p p' same registers = refl
-registers_same (assigns y w) v v' r r' p p' same registers = refl
-registers_same passes v v' r r' p p' same registers = refl
-registers_same (issues q remote source destination) v v' r r' p p' same registers = refl
-registers_same meets v v' r r' p p' same registers = refl
+registers_same (Stores c w) v v' r r' p p' same registers = refl
+registers_same (Assigns y w) v v' r r' p p' same registers = refl
+registers_same Passes v v' r r' p p' same registers = refl
+registers_same (Issues q remote source destination) v v' r r' p p' same registers = refl
+registers_same Meets v v' r r' p p' same registers = refl
 
 -- The same transition asks for the same, from the same local state.
 pub same_act : {P : Program} {l l' m m' : Local} {e e' : Event} (s : CommandStep P l e m) (s' : CommandStep P l' e' m') → l ≡ l' → rank_of e ≡ rank_of e' →
     e.item.transition ≡ e'.item.transition → (s.transition ≡ s'.transition) × (s.act ≡ s'.act)
 same_act {P} {l} {l'} {e = e} {e'} s s' local rank number =
     let one : s.transition ≡ s'.transition =
-    some-injective _ _ (sym s.taken ∙ ap (get_elem? P.transitions) number ∙ s'.taken) in (
+    some-injective _ _ (sym s.taken ∙ ap (slice_get P.transitions) number ∙ s'.taken) in (
       one,
       ok_injective (sym (s.acts 0) ∙ ap₂ (λ r (k : Local). action P r k.registers 0 s.transition.command) rank local ∙
           ap (λ (t : Transition). action P (rank_of e') l'.registers 0 t.command) one ∙ s'.acts 0),
@@ -64,15 +66,15 @@ same_step {P} {l} {l'} {e = e} {e'} s s' local rank number value =
     ap₂ (λ a (k : Local). registers_after a s'.value k.registers) act local ∙ sym s'.registers)
 
 -- A write's value is its action's, whatever was loaded.
-pub write_value : (a : Action) (r r' v v' : ℕ) {b : Access} → access_of r a (λ _ _. v) ≡ some b → b.writes ≡ true →
+pub write_value : (a : Action) (r r' v v' : ℕ) {b : Access} → access_of r a (λ _ _. v) ≡ Some b → b.writes ≡ true →
     value_in (access_of r a (λ _ _. v)) ≡ value_in (access_of r' a (λ _ _. v'))
 unfolding access_of
-write_value (loads x c) r r' v v' is writes = absurd (false≢true (ap (λ (b : Access). b.writes) (some-injective _ _ is) ∙ writes))
-write_value (stores c w) r r' v v' is writes = refl
-write_value (assigns x w) r r' v v' is writes = refl
-write_value passes r r' v v' is writes = refl
-write_value (issues q remote source destination) r r' v v' is writes = refl
-write_value meets r r' v v' is writes = refl
+write_value (Loads x c) r r' v v' is writes = absurd (false≢true (ap (λ (b : Access). b.writes) (some-injective _ _ is) ∙ writes))
+write_value (Stores c w) r r' v v' is writes = refl
+write_value (Assigns x w) r r' v v' is writes = refl
+write_value Passes r r' v v' is writes = refl
+write_value (Issues q remote source destination) r r' v v' is writes = refl
+write_value Meets r r' v v' is writes = refl
 
 -- The command with this place in a rank's sequence.
 pub record CommandAt (events : List Event) (rank place : ℕ) : Type 0 where
@@ -121,7 +123,7 @@ shape_fetched (row bars kinds ranks) k b at kind = absurd (command≢delivery (s
 module _ {P : Program} {start : Start} {items : List Item} {run : Replayed} (f : Facts P start items run) where
   pub command_at_lem : (rank place : ℕ) → place < count_of rank run.events → CommandAt run.events rank place
   command_at_lem rank place few =
-      let (e, there) = get_elem?_below (select (command_of rank) run.events) place few in
+      let (e, there) = slice_get_below (select (command_of rank) run.events) place few in
       let s : Selected (command_of rank) run.events place e = select_from (command_of rank) run.events place there in
       let (command, same) = and-true (is_command e) (eqb (rank_of e) rank) s.passes in
       let own : rank_of e ≡ rank = eqb-true (rank_of e) rank same in
@@ -139,7 +141,7 @@ module _ {P : Program} {start : Start} {items : List Item} {run : Replayed} (f :
       (d : CommandAt run.events (rank_of e) k) × (d.i < i)
   previous i e at c k is =
       let own = select_at (command_of (rank_of e)) run.events i at (command_of_true e c) in
-      let few = get_elem?_bound (select (command_of (rank_of e)) run.events) (count_of (rank_of e) (take i run.events)) own in
+      let few = slice_get_bound (select (command_of (rank_of e)) run.events) (count_of (rank_of e) (take i run.events)) own in
       let d : CommandAt run.events (rank_of e) k = command_at_lem (rank_of e) k (omega (arith, is, f.place_of i e at c, few)) in
       (d, place_order f d.i i d.at at d.command c d.own (omega (arith, is, d.here)))
 

@@ -1,12 +1,11 @@
 -- The notions of "one trace, one page" (document 02, #112), of lists of items and of their events.
-use Rattle.std.specs.Prelude.{ℕ, suc, ◌≡◌, Bool, false, ◌&&◌, ◌||◌, List, eqb, length}
-use Rattle.std.proofs.Math.Option.{some}
+use Rattle.std.specs.Prelude.{ℕ, suc, ◌≡◌, Bool, false, ◌&&◌, ◌||◌, List, eqb, length, Some}
 use Rattle.model.specs.declared.Address.{Address}
 use Rattle.model.specs.declared.Item.{Item}
 use Rattle.model.specs.declared.Kind.{Kind}
 use Rattle.model.specs.declared.Kind.TheVariants.{Store, Popb}
 use Rattle.model.specs.Choice.{select, Each}
-use Rattle.model.specs.Refusals.{ok}
+use Rattle.model.specs.Refusals.{Ok}
 use Rattle.model.specs.ItemKinds.{same_kind, is_bar, has_place}
 use Rattle.model.specs.Programs.{Program}
 use Rattle.model.specs.Machine.{Start, Access, address}
@@ -19,7 +18,7 @@ use Rattle.model.specs.Traces.{InRecord}
 pub record RecordedRun (P : Program) (start : Start) (run : Replayed) : Type 0 where
   pub items : List Item
   pub in_record : Each (InRecord P.header) items
-  pub replayed : replay P start items ≡ ok run
+  pub replayed : replay P start items ≡ Ok run
 
 -- "two neighbouring items of different ranks, neither a bar, whose accesses do not conflict": x and y, whose events stand at a place and the next.
 pub record Exchangeable (events : List Event) (place : ℕ) (x y : Item) : Type 0 where
@@ -34,7 +33,7 @@ pub record Accesses (events : List Event) (rank cell : ℕ) : Type 0 where
   pub e : Event
   pub a : Access
   pub at : At events i e
-  pub access : e.access ≡ some a
+  pub access : e.access ≡ Some a
   pub here : a.address ≡ address rank cell
 
 -- "two starts differ only in cells that a record .. never accesses"

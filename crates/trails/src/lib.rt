@@ -4,28 +4,24 @@
 ghost use Rattle.std.specs.Prelude.{◌≡◌};
 ghost use Rattle.trails.specs.Trails.{command_rank, told};
 
-use items::kinds::same_kind;
-use model::{ITEMS, Item, Kind, Trail};
+use model::{Item, Kind, Trail};
 
 // "Pops are not in program order": the rank of a command, and 0 for a pop.
 fn command_rank(item: Item) -> u16
     ensures { result ≡ command_rank item }
 {
-    let kind = item.kind;
-    if same_kind(kind, Kind::Popa) {
-        return 0;
+    match item.kind {
+        Kind::Popa | Kind::Popb => 0,
+        _ => item.rank,
     }
-    if same_kind(kind, Kind::Popb) {
-        return 0;
-    }
-    item.rank
 }
 
 // What is told of the item with the number `at`.
+#[tactic(auto, unfolding(crate::specs::Trails::told))]
 pub fn tell(trail: &mut Trail, at: usize, item: Item, group: u16, access: u16)
     ensures { trail.new ≡ told trail.old at item group access }
 {
-    if at < ITEMS {
+    if at < trail.len() {
         trail[at] = [command_rank(item), group, access];
     }
 }

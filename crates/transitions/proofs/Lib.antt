@@ -1,4 +1,3 @@
--- The laws that the functions' proofs cite, from the fields up.
-pub mod Pairs
-pub mod TransitionFields
+-- The laws that the functions' proofs cite.
+pub mod Fields
 pub mod Transitions

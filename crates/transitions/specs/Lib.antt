@@ -1,3 +1,2 @@
--- What the readers answer, by the definitions of `model`: pairs of fields, transitions.
-pub mod Pairs
+-- What the reader of transitions answers, by the definitions of `model`.
 pub mod Transitions

@@ -1,7 +1,6 @@
-// Reading a transition of a program, with the values of its expressions in a rank: one text that judges and evaluates. It equals its definition in
-// `model`, on every byte string.
+// Reading a transition of a program, with the values of its expressions in an environment: one text that judges and evaluates. It equals its
+// definition in `model`, on every byte string.
 #![tactic(auto)]
 
-pub mod pair;
 pub mod transition;
 mod values;

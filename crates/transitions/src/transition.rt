@@ -1,38 +1,64 @@
 // Transitions: "a map byte, a kind byte, a from state, a to state, then only the fields whose map bit stands, in bit order". One is read with the
-// values of its expressions in a rank; the program's reader drops them.
-ghost use Rattle.std.specs.Prelude.{◌≡◌};
+// values of its expressions in an environment; the program's reader drops them.
+ghost use Rattle.std.specs.Prelude.{◌≡◌, option_map};
 ghost use Rattle.model.specs.Choice.{lookup};
-ghost use Rattle.model.specs.Programs.{forms, read_transition};
-ghost use Rattle.expressions.specs.Values.{number_below};
-ghost use Rattle.transitions.specs.Pairs.{in_turn, numbers_read};
-ghost use Rattle.transitions.specs.Transitions.{option_map, read_form, Makes, RestRead, transfer_operands, transition_read};
+ghost use Rattle.model.specs.Programs.{Fields, forms, read_transition};
+ghost use Rattle.expressions.specs.declared.Environment.{Environment};
+ghost use Rattle.expressions.specs.Values.{map_found};
+ghost use Rattle.transitions.specs.Transitions.{command_form, command_of, first_bytes, transfer_operands, transition_of, values_of};
 
-use crate::pair::Pair;
-use crate::values::{FieldsRead, Values, read_fields};
-use expressions::read_below;
-use expressions::value::Value;
-use fields::{Field, read_byte};
+use crate::values::{Values, read_fields};
+use expressions::{Environment, read_below};
+use fields::read_byte;
 use model::refusals::{PROGRAM_FORM, PROGRAM_LENGTH};
-use model::{Header, RankRegisters, Refusal};
+use model::{Found, Read, Refusal};
 
 // The values of e1 to e4 of a transfer: "e1 own cell, e2 remote rank, e3 remote cell, e4 queue". None is judged yet.
 #[derive(Clone, Copy)]
 pub struct Operands {
-    pub own: Value,
-    pub rank: Value,
-    pub cell: Value,
-    pub queue: Value,
+    pub own: Option<u16>,
+    pub rank: Option<u16>,
+    pub cell: Option<u16>,
+    pub queue: Option<u16>,
+}
+
+impl From<Values> for Operands {
+    ghost from_gives = { λ values operands. operands ≡ transfer_operands values };
+
+    fn from(values: Values) -> Operands {
+        Operands {
+            own: values.e1,
+            rank: values.e2,
+            cell: values.e3,
+            queue: values.e4,
+        }
+    }
 }
 
 // The command column of document 01's table of kinds, with a value in the place of each expression.
 #[derive(Clone, Copy)]
 pub enum Command {
-    Load { cell: Value, register: u16 },
-    Store { cell: Value, value: Value },
-    Assign { value: Value, register: u16 },
-    Assume { value: Value },
-    Read { operands: Operands },
-    Write { operands: Operands },
+    Load {
+        cell: Option<u16>,
+        register: u16,
+    },
+    Store {
+        cell: Option<u16>,
+        value: Option<u16>,
+    },
+    Assign {
+        value: Option<u16>,
+        register: u16,
+    },
+    Assume {
+        value: Option<u16>,
+    },
+    Read {
+        operands: Operands,
+    },
+    Write {
+        operands: Operands,
+    },
     Bar,
 }
 
@@ -43,172 +69,118 @@ pub struct Transition {
     pub command: Command,
 }
 
-// A transition and the place after it, or the refusal.
-#[derive(Clone, Copy)]
-pub enum TransitionRead {
-    Read { transition: Transition, next: usize },
-    Refused(Refusal),
-}
-
-// The map that the transitions of a kind have.
+// A row of the table of kinds. The pops are no kinds of transitions.
 #[derive(Clone, Copy)]
 enum Form {
-    Map(u16),
-    Unknown,
+    Load,
+    Store,
+    Assign,
+    Assume,
+    Read,
+    Write,
+    Bar,
 }
 
-// The table of kinds, with the map of each. The pops are no kinds of transitions.
-fn form_of(kind: u16) -> Form
-    ensures { option_map (lookup kind forms) ≡ result }
+// The row of a kind's number.
+#[tactic(auto, unfolding(model::specs::Choice::lookup, model::specs::Programs::forms))]
+fn form_of(kind: u16) -> Option<Form>
+    ensures { option_map command_form result ≡ lookup kind forms }
 {
     match kind {
-        1 => Form::Map(3), // load
-        2 => Form::Map(6), // store
-        3 => Form::Map(3), // assign
-        4 => Form::Map(2), // assume
-        5 => Form::Map(30), // read
-        6 => Form::Map(30), // write
-        9 => Form::Map(0), // bar
-        _ => Form::Unknown,
+        1 => Some(Form::Load),
+        2 => Some(Form::Store),
+        3 => Some(Form::Assign),
+        4 => Some(Form::Assume),
+        5 => Some(Form::Read),
+        6 => Some(Form::Write),
+        9 => Some(Form::Bar),
+        _ => None,
+    }
+}
+
+impl Form {
+    // The map that the transitions of the kind have.
+    fn map(self) -> u16
+        ensures { result ≡ (command_form self).map }
+    {
+        match self {
+            Form::Load | Form::Assign => 3,
+            Form::Store => 6,
+            Form::Assume => 2,
+            Form::Read | Form::Write => 30,
+            Form::Bar => 0,
+        }
+    }
+
+    // The command that it makes of its fields.
+    fn command(self, values: Values) -> Command
+        ensures { (e : Environment) (fields : Fields) → values ≡ values_of e fields → result ≡ command_of e ((command_form self).command fields) }
+    {
+        match self {
+            Form::Load => Command::Load {
+                cell: values.e1,
+                register: values.register,
+            },
+            Form::Store => Command::Store {
+                cell: values.e1,
+                value: values.e2,
+            },
+            Form::Assign => Command::Assign {
+                value: values.e1,
+                register: values.register,
+            },
+            Form::Assume => Command::Assume { value: values.e1 },
+            Form::Read => Command::Read {
+                operands: Operands::from(values),
+            },
+            Form::Write => Command::Write {
+                operands: Operands::from(values),
+            },
+            Form::Bar => Command::Bar,
+        }
     }
 }
 
 // Map and kind: both are read before either is judged, the kind first.
-fn read_form(bytes: &[u8], at: usize) -> Pair
-    ensures { result ≡ numbers_read (read_form bytes.now at) }
+#[tactic(auto, unfolding(crate::specs::Transitions::first_bytes, model::specs::Programs::judged_form))]
+fn read_form(bytes: &[u8], at: usize) -> Read<Form>
+    ensures { map_found command_form result ≡ first_bytes bytes.now at }
 {
-    let first = read_byte(bytes, at, PROGRAM_LENGTH);
-    let Field::Read(map, place) = first else {
-        return Pair::Refused(first.refusal());
-    };
-    let second = read_byte(bytes, place, PROGRAM_LENGTH);
-    let Field::Read(kind, next) = second else {
-        return Pair::Refused(second.refusal());
-    };
-    let form = form_of(kind);
-    let Form::Map(expected) = form else {
-        return Pair::Refused(Refusal {
-            number: PROGRAM_FORM,
-            place,
-        });
-    };
-    if map == expected {
-        Pair::Read(map, kind, next)
+    let map = read_byte(bytes, at, PROGRAM_LENGTH)?;
+    let kind = read_byte(bytes, map.next, PROGRAM_LENGTH)?;
+    let form = form_of(kind.value).ok_or(Refusal {
+        number: PROGRAM_FORM,
+        place: map.next,
+    })?;
+    if map.value == form.map() {
+        Ok(Found {
+            value: form,
+            next: kind.next,
+        })
     } else {
-        Pair::Refused(Refusal {
+        Err(Refusal {
             number: PROGRAM_FORM,
             place: at,
         })
     }
 }
 
-// "a from state, a to state"
-fn read_states(bytes: &[u8], at: usize, states: u16) -> Pair
-    ensures { result ≡ numbers_read (in_turn (number_below states) (number_below states) bytes.now at) }
+// The transition at a place, with the values of its expressions in an environment.
+#[tactic(auto, using(crate::proofs::Transitions::by_form))]
+pub fn read_transition(environment: &Environment, bytes: &[u8], at: usize) -> Read<Transition>
+    ensures { result ≡ map_found (transition_of environment.now) (read_transition environment.now.header bytes.now at) }
 {
-    let from = read_below(bytes, at, states);
-    let Field::Read(source, middle) = from else {
-        return Pair::Refused(from.refusal());
-    };
-    let to = read_below(bytes, middle, states);
-    let Field::Read(target, next) = to else {
-        return Pair::Refused(to.refusal());
-    };
-    Pair::Read(source, target, next)
-}
-
-// The values of a transfer's expressions.
-fn operands_of(values: Values) -> Operands
-    ensures { result ≡ transfer_operands values }
-{
-    let own = values.e1;
-    let rank = values.e2;
-    let cell = values.e3;
-    let queue = values.e4;
-    Operands {
-        own,
-        rank,
-        cell,
-        queue,
-    }
-}
-
-// The command that a kind makes of its fields.
-fn command_of(kind: u16, values: Values) -> Command
-    ensures { Makes kind values result }
-{
-    let register = values.register;
-    let first = values.e1;
-    let second = values.e2;
-    match kind {
-        1 => Command::Load {
-            cell: first,
-            register,
+    let states = environment.header.states;
+    let form = read_form(bytes, at)?;
+    let source = read_below(bytes, form.next, states)?;
+    let target = read_below(bytes, source.next, states)?;
+    let fields = read_fields(environment, bytes, target.next, form.value.map())?;
+    Ok(Found {
+        value: Transition {
+            source: source.value,
+            target: target.value,
+            command: form.value.command(fields.value),
         },
-        2 => Command::Store {
-            cell: first,
-            value: second,
-        },
-        3 => Command::Assign {
-            value: first,
-            register,
-        },
-        4 => Command::Assume { value: first },
-        5 => Command::Read {
-            operands: operands_of(values),
-        },
-        6 => Command::Write {
-            operands: operands_of(values),
-        },
-        _ => Command::Bar,
-    }
-}
-
-// What follows map and kind: the states, and the fields that the map has.
-fn read_rest(
-    bytes: &[u8],
-    at: usize,
-    map: u16,
-    kind: u16,
-    header: Header,
-    rank: u16,
-    registers: RankRegisters,
-) -> TransitionRead
-    ensures { RestRead header rank registers map kind bytes.now at result }
-{
-    let states = read_states(bytes, at, header.states);
-    match states {
-        Pair::Refused(refusal) => TransitionRead::Refused(refusal),
-        Pair::Read(source, target, at) => {
-            let fields = read_fields(bytes, at, map, header, rank, registers);
-            match fields {
-                FieldsRead::Refused(refusal) => TransitionRead::Refused(refusal),
-                FieldsRead::Read(values, next) => TransitionRead::Read {
-                    transition: Transition {
-                        source,
-                        target,
-                        command: command_of(kind, values),
-                    },
-                    next,
-                },
-            }
-        }
-    }
-}
-
-// The transition at a place, with the values of its expressions in a rank with these registers.
-pub fn read_transition(
-    bytes: &[u8],
-    at: usize,
-    header: Header,
-    rank: u16,
-    registers: RankRegisters,
-) -> TransitionRead
-    ensures { result ≡ transition_read header rank registers (read_transition header bytes.now at) }
-{
-    let form = read_form(bytes, at);
-    match form {
-        Pair::Refused(refusal) => TransitionRead::Refused(refusal),
-        Pair::Read(map, kind, at) => read_rest(bytes, at, map, kind, header, rank, registers),
-    }
+        next: fields.next,
+    })
 }

@@ -2,11 +2,12 @@
 -- are those that are left, so that the ring among them is the definition's.
 use Prim.Native.Nat.{ℕ, ◌+◌, ◌≤◌, ◌<◌}
 use mathlib.Core.Path.{◌≡◌, sym, ap, ap₂, ◌∙◌}
-use mathlib.Core.Bool.{true, false, not}
+use mathlib.Core.Bool.{not}
 use mathlib.Core.List.{List}
 use native.Mathlib.Omega.{arith}
 use lib.Dec.{eqb}
 use lib.ListN.{length}
+use Rattle.model.specs.declared.Verdict.TheVariants.{Order, Ring}
 use Rattle.model.specs.Limits.{max_items}
 use Rattle.model.specs.Choice.{select, numbers_from}
 use Rattle.model.specs.HappensBefore.{Edge}
@@ -78,14 +79,14 @@ module _ (groups : ℕ) (drawn : List Edge) where
     count_is = ap (λ (q : Placed). q.count) placed
 
     pub judged_order : all ≤ p.count →
-        ◌≡◌ {A = Judged} (record { cyclic = false; count = p.count; groups = p.order }) (judged_as (verdict limit edges))
+        ◌≡◌ {A = Judged} (record { verdict = Order p.count; groups = p.order }) (judged_as (verdict limit edges))
     judged_order h =
-        ap (λ (q : Placed). record { cyclic = false; count = q.count; groups = q.order }) placed
+        ap (λ (q : Placed). record { verdict = Order q.count; groups = q.order }) placed
         ∙ ap judged_as (sym (all_placed_lem limit edges between (omega (arith, count_is))))
 
     pub judged_ring : p.count < all → {f : Found} → f ≡ found_as (ring_among limit p.waiting edges) →
-        ◌≡◌ {A = Judged} (record { cyclic = true; count = f.count; groups = f.ring }) (judged_as (verdict limit edges))
+        ◌≡◌ {A = Judged} (record { verdict = Ring f.count; groups = f.ring }) (judged_as (verdict limit edges))
     judged_ring h found =
-        ap (λ (g : Found). record { cyclic = true; count = g.count; groups = g.ring })
+        ap (λ (g : Found). record { verdict = Ring g.count; groups = g.ring })
         (found ∙ ap (λ (q : Placed). found_as (ring_among limit q.waiting edges)) placed)
         ∙ ap judged_as (sym (some_left limit edges between (groups_bound groups) (omega (arith, count_is))))

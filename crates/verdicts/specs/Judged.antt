@@ -1,20 +1,16 @@
 -- What the arrows come to, by the definition's `verdict`.
-use Rattle.std.specs.Prelude.{ℕ, Bool, true, false, length}
-use Rattle.model.specs.declared.Answer.{Answer}
-use Rattle.model.specs.declared.Answer.TheVariants.{Order, Ring}
-use Rattle.model.specs.Orders.{Verdict, ordered, cyclic}
-use Rattle.model.specs.Checks.{listed}
+use Rattle.std.specs.Prelude.{ℕ}
+use Rattle.model.specs.declared.Verdict as verdicts
+use Rattle.model.specs.declared.Verdict.TheVariants.{Order, Ring}
+use Rattle.model.specs.Orders.{Verdict}
+use Rattle.model.specs.Checks.{listed, counted}
 use Rattle.graph.specs.Edges.{group_list}
 use Rattle.verdicts.specs.declared.Judged.{Judged}
 
-abbrev pub is_cyclic : Verdict → Bool
-is_cyclic (ordered groups) = false
-is_cyclic (cyclic groups) = true
+-- How many groups an order or a ring has.
+abbrev pub count_of : verdicts.Verdict → ℕ
+count_of (Order n) = n
+count_of (Ring n) = n
 
 abbrev pub judged_as : Verdict → Judged
-judged_as v = record { cyclic = is_cyclic v; count = length (listed v); groups = group_list (listed v) }
-
--- The answer that an order or a ring of so many groups is.
-abbrev pub answer_of : (cyclic : Bool) → (count : ℕ) → Answer
-answer_of false count = Order count
-answer_of true count = Ring count
+judged_as v = record { verdict = counted v; groups = group_list (listed v) }

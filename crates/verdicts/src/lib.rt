@@ -1,54 +1,58 @@
 // What the arrows come to: an order of all groups, or a ring of some.
 #![tactic(auto)]
 
-ghost use Rattle.std.specs.Prelude.{◌≡◌};
+ghost use Rattle.std.specs.Prelude.{◌≡◌, Ok};
 ghost use Rattle.model.specs.Orders as orders;
 ghost use Rattle.graph.specs.Edges.{groups_in, graph_in};
-ghost use Rattle.verdicts.specs.Judged.{judged_as, answer_of};
+ghost use Rattle.verdicts.specs.Judged.{count_of, judged_as};
 
-use graph::{Edges, Groups, groups_in};
-use model::Answer;
+use graph::{Drawn, Groups, groups_in};
+use model::{Answer, Verdict};
 use placing::place;
 use rings::ring;
 
-// Whether the groups that are listed are a ring and not an order, how many they are, and the list.
+// An order or a ring, by how many groups it has, and these groups.
 #[derive(Clone, Copy)]
 pub struct Judged {
-    pub cyclic: bool,
-    pub count: usize,
+    pub verdict: Verdict,
     pub groups: Groups,
 }
 
-// The verdict on the groups below `groups`, with those of the first `count` arrows that are between them.
-pub fn verdict(groups: u16, edges: &Edges, count: usize) -> Judged
-    ensures { result ≡ judged_as (orders.verdict (groups_in groups) (graph_in groups count edges.now)) }
-{
-    let placed = place(groups, edges, count);
-    let placed_count = placed.count;
-    if placed_count < groups_in(groups) {
-        let waiting = placed.waiting;
-        let found = ring(groups, edges, count, &waiting);
-        let members = found.ring;
-        return Judged {
-            cyclic: true,
-            count: found.count,
-            groups: members,
-        };
+impl Judged {
+    // A verdict is an answer, and no refusal.
+    pub fn answer(&self) -> Answer
+        ensures { result ≡ Ok self.now.verdict }
+    {
+        Ok(self.verdict)
     }
-    let order = placed.order;
-    Judged {
-        cyclic: false,
-        count: placed_count,
-        groups: order,
+
+    // How many groups are listed.
+    pub fn count(&self) -> usize
+        ensures { result ≡ count_of self.now.verdict }
+    {
+        match self.verdict {
+            Verdict::Order(count) | Verdict::Ring(count) => count,
+        }
     }
 }
 
-// The answer that an order or a ring of so many groups is.
-pub fn answer_of(cyclic: bool, count: usize) -> Answer
-    ensures { result ≡ answer_of cyclic count }
+// The verdict on the groups below `groups`, with those of the arrows that are between them.
+pub fn verdict(groups: u16, drawn: &Drawn) -> Judged
+    ensures { result ≡ judged_as (orders.verdict (groups_in groups) (graph_in groups drawn.now.count drawn.now.edges)) }
 {
-    if cyclic {
-        return Answer::Ring(count);
+    let placed = place(groups, drawn);
+    if placed.count < groups_in(groups) {
+        let found = ring(groups, &drawn.edges, drawn.count, &placed.waiting);
+        let members = found.ring;
+        Judged {
+            verdict: Verdict::Ring(found.count),
+            groups: members,
+        }
+    } else {
+        let order = placed.order;
+        Judged {
+            verdict: Verdict::Order(placed.count),
+            groups: order,
+        }
     }
-    Answer::Order(count)
 }

@@ -28,12 +28,9 @@ const CRATES: [&str; 2] = ["cases_a", "cases_b"];
 
 /// What every file of theorems begins with.
 const HEAD: &str = "-- Cases of the corpus, each computed by the definitions.
-use Rattle.std.specs.Prelude.{ℕ, ◌≡◌, List, [], ◌∷◌, ◌++◌, replicate}
+use Rattle.std.specs.Prelude.{ℕ, ◌≡◌, List, [], ◌∷◌, ◌++◌, replicate, Ok, Err}
 use Rattle.std.proofs.Math.Path.{refl}
-use Rattle.model.specs.declared.Answer.{Answer}
-use Rattle.model.specs.declared.Answer.TheVariants as answers
-use Rattle.model.specs.declared.Filled.{Filled}
-use Rattle.model.specs.declared.Filled.TheVariants as filled
+use Rattle.model.specs.declared.Verdict.TheVariants.{Order, Ring}
 use Rattle.model.specs.Formats.{item_maps}
 use Rattle.model.specs.Checks.{check_in, check, check_bytes_in, check_bytes}
 use Rattle.model.specs.Slips.{write_slip_in, write_slip, read_slip_in, read_slip}

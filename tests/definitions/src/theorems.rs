@@ -60,10 +60,10 @@ fn list<T: ToString>(numbers: &[T]) -> String {
     text + "[])"
 }
 
-/// The refusal case of an answer of this type.
-fn refused(of: &str, why: Refusal) -> String {
+/// The refusal case of an answer.
+fn refused(why: Refusal) -> String {
     format!(
-        "{of}.Refused (record {{ number = {}; place = {} }})",
+        "Err (record {{ number = {}; place = {} }})",
         why.number, why.place
     )
 }
@@ -93,9 +93,9 @@ fn input(case: &CheckCase) -> String {
 /// The whole check on these two lists, by the definition for entries or by that for bytes.
 fn outcome(definition: &'static str, case: &CheckCase, order: &Lent, cells: &Lent) -> Theorem {
     let answer = match &case.answer {
-        Expected::Order(groups) => format!("answers.Order {}", groups.len()),
-        Expected::Ring(groups) => format!("answers.Ring {}", groups.len()),
-        Expected::Refused(why) => refused("answers", *why),
+        Expected::Order(groups) => format!("Ok (Order {})", groups.len()),
+        Expected::Ring(groups) => format!("Ok (Ring {})", groups.len()),
+        Expected::Refused(why) => refused(*why),
     };
     Theorem {
         definition,
@@ -148,8 +148,8 @@ fn filled(
     memory: &Lent,
 ) -> Theorem {
     let answer = match answer {
-        Ok(entries) => format!("filled.Entries {entries}"),
-        Err(why) => refused("filled", why),
+        Ok(entries) => format!("Ok {entries}"),
+        Err(why) => refused(why),
     };
     Theorem {
         definition,
@@ -184,10 +184,10 @@ fn told(case: &CheckCase) -> String {
         .split(' ')
         .collect();
     match words[..] {
-        ["order", count] => format!("answers.Order {count}"),
-        ["ring", count] => format!("answers.Ring {count}"),
+        ["order", count] => format!("Ok (Order {count})"),
+        ["ring", count] => format!("Ok (Ring {count})"),
         ["refused", number, place] => {
-            format!("answers.Refused (record {{ number = {number}; place = {place} }})")
+            format!("Err (record {{ number = {number}; place = {place} }})")
         }
         _ => panic!("{}: a listing of another form", case.name),
     }
@@ -207,7 +207,7 @@ fn listed(case: &CheckCase) -> Vec<Theorem> {
     vec![
         theorem(told(case), text.len(), &Lent::roomy(text)),
         theorem(
-            refused("answers", too_short(text.len())),
+            refused(too_short(text.len())),
             0,
             &Lent::untouched(text.len() - 1),
         ),

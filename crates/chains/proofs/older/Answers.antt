@@ -1,15 +1,21 @@
 -- `chains::older` meets its contract: the tests are the definition's, or the definition answers 0 too.
-use Rattle.chains.proofs.Cases.{older_none, older_falls, older_ends, older_outside}
+use Rattle.chains.proofs.Cases.{older_none, older_at, older_stays, older_beyond, no_slot}
 use Rattle.chains.proofs.older.Goals as goal
 
-pub returns-then-member-eq0 : goal.returns-then-member-eq0
-returns-then-member-eq0 c = older_none _ _ c.if-member-eq0.true
+pub returns-in_default : goal.returns-in_default
+returns-in_default c = older_none _ _ (no_slot c.in_default.ensures)
 
-pub returns-then-below-member : goal.returns-then-below-member
-returns-then-below-member c = older_falls _ _ c.if-below-member.true
+pub returns-in-Some-get : goal.returns-in-Some-get
+returns-in-Some-get c =
+    let link = c.in-Some-get.ensures.lookup.3 in
+    rw (link.1 0) (older_at _ _ c.in-Some.ensures (rw (link.1 0) at c.if-below-member.true))
 
-pub returns-else-below-member : goal.returns-else-below-member
-returns-else-below-member c = older_ends _ _ c.if-below-member.false
+pub returns-in_default-get : goal.returns-in_default-get
+returns-in_default-get c =
+    let link = c.in-Some-get.ensures.lookup.3 in
+    older_stays _ _ c.in-Some.ensures (rw (link.1 0) at c.if-below-member.false)
 
-pub returns-else-slot-links : goal.returns-else-slot-links
-returns-else-slot-links c = older_outside _ _ c.if-slot-links.false
+pub returns-in_default-get-2 : goal.returns-in_default-get-2
+returns-in_default-get-2 c =
+    let beyond = rw c.in_default-get.is at c.get.ensures.lookup in
+    older_beyond _ _ c.in-Some.ensures beyond.3

@@ -9,4 +9,4 @@ pub returns : goal.returns
 unfolding capacity
 returns c =
     checks numbers _ _ _ _ _ (λ i. omega (arith, c.shared_slice_known-3-1.given i)) c.conclude-concluded.ensures
-    c.write_numbers.ensures c.write_cells.ensures
+    c.write_lists.ensures.groups c.write_lists.ensures.cells

@@ -1,9 +1,13 @@
 -- `take_command`: the transition that stands at the start is read as the definition reads it.
-use Rattle.commands.proofs.Outcomes.{command_unread, command_read}
+use mathlib.Core.Path.{refl}
+use Rattle.machine.proofs.Outcomes.{does_refused}
+use Rattle.commands.specs.Commands.{read_on}
 use Rattle.commands.proofs.take_command.Goals as goal
 
-pub returns-in_default : goal.returns-in_default
-returns-in_default c = search command_unread
+pub returns-in-Ok : goal.returns-in-Ok
+unfolding read_on
+returns-in-Ok c = rw (← c.registers_of.ensures, ← c.read_transition.ensures, c.in-Ok.is) c.take_transition.ensures
 
-pub returns : goal.returns
-returns c = search command_read
+pub returns-in-Err : goal.returns-in-Err
+unfolding read_on
+returns-in-Err c = rw (← c.registers_of.ensures, ← c.read_transition.ensures, c.in-Err.is) (does_refused refl)

@@ -5,6 +5,3 @@ use Rattle.first_items.proofs.first_items.Given as goal
 
 abbrev pub invariant-loop-number : goal.invariant-loop-number
 invariant-loop-number l = first_items l.header l.recorded l.trail l.items ≡ firsts_from l.header l.recorded l.trail (l.items - l.number) l.number l.place l.firsts
-
-abbrev pub decreases-loop-number : goal.decreases-loop-number
-decreases-loop-number l = l.items - l.number

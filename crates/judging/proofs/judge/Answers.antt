@@ -10,4 +10,4 @@ unfolding verdict_told
 returns c =
     let given = c.args in
     c.verdict.ensures
-    ∙ ap (λ drawn. judged_as (verdict_drawn given.groups drawn)) (c.edges_of-drawn.ensures ∙ table_drawn given.trail.now given.items)
+    ∙ ap (λ drawn. judged_as (verdict_drawn given.groups drawn)) (rw c.none-drawn.ensures at c.edges_of.ensures ∙ table_drawn given.trail.now given.items)

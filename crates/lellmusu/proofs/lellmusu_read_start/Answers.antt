@@ -4,4 +4,4 @@ use Rattle.lellmusu.proofs.lellmusu_read_start.Goals as goal
 
 pub returns : goal.returns
 returns c =
-    tells c.read_start_bytes-filled.ensures c.filled_value.ensures c.filled_number.ensures
+    tells c.read_start_bytes.ensures c.tell.ensures.counts c.tell.ensures.returns

@@ -4,4 +4,4 @@ use Rattle.lellmusu.proofs.lellmusu_write_slip.Goals as goal
 
 pub returns : goal.returns
 returns c =
-    tells c.write_slip-filled.ensures c.filled_value.ensures c.filled_number.ensures
+    tells c.write_slip.ensures c.tell.ensures.counts c.tell.ensures.returns

@@ -4,4 +4,4 @@ use Rattle.lellmusu.proofs.lellmusu_write_start.Goals as goal
 
 pub returns : goal.returns
 returns c =
-    tells c.write_start_bytes-filled.ensures c.filled_value.ensures c.filled_number.ensures
+    tells c.write_start_bytes.ensures c.tell.ensures.counts c.tell.ensures.returns

@@ -39,14 +39,14 @@ overflow_add-at-2 c =
     let number = with_number fits (with_word fits c.write_word-at.ensures) c.write_number-at.ensures in
     record { fits = omega (arith, grown_inside (with_head fits number c.write_word-at-2.ensures)) }
 
-pub slice_bounds-write_kind_line-count : goal.slice_bounds-write_kind_line-count
-slice_bounds-write_kind_line-count c =
+pub slice_bounds-write_line-count : goal.slice_bounds-write_line-count
+slice_bounds-write_line-count c =
     let fits : Room c.args.text.now c.args.group c.args.kind c.args.rank c.args.first = record { fits = omega arith } in
     let number = with_number fits (with_word fits c.write_word-at.ensures) c.write_number-at.ensures in
     grown_inside (with_head fits number c.write_word-at-2.ensures)
 
-pub slice_bounds-write_kind_line-start : goal.slice_bounds-write_kind_line-start
-slice_bounds-write_kind_line-start c =
+pub slice_bounds-write_line-start : goal.slice_bounds-write_line-start
+slice_bounds-write_line-start c =
     let fits : Room c.args.text.now c.args.group c.args.kind c.args.rank c.args.first = record { fits = omega arith } in
     let number = with_number fits (with_word fits c.write_word-at.ensures) c.write_number-at.ensures in
     grown_inside (with_head fits number c.write_word-at-2.ensures)
@@ -55,11 +55,11 @@ pub returns : goal.returns
 returns c =
     let fits : Room c.args.text.now c.args.group c.args.kind c.args.rank c.args.first = record { fits = omega arith } in
     let number = with_number fits (with_word fits c.write_word-at.ensures) c.write_number-at.ensures in
-    with_line fits (with_head fits number c.write_word-at-2.ensures) c.write_kind_line.ensures
+    with_line fits (with_head fits number c.write_word-at-2.ensures) (rw c.kind_word.ensures at c.write_line.ensures)
 
 pub overflow_add-result : goal.overflow_add-result
 overflow_add-result c =
     let fits : Room c.args.text.now c.args.group c.args.kind c.args.rank c.args.first = record { fits = omega arith } in
     let number = with_number fits (with_word fits c.write_word-at.ensures) c.write_number-at.ensures in
-    let whole = with_line fits (with_head fits number c.write_word-at-2.ensures) c.write_kind_line.ensures in
+    let whole = with_line fits (with_head fits number c.write_word-at-2.ensures) (rw c.kind_word.ensures at c.write_line.ensures) in
     record { fits = omega (arith, wrote_inside whole) }

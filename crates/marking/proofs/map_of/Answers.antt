@@ -1,20 +1,25 @@
--- `map_of` meets its contract. The invariant: the map of the values passed.
+-- `map_of`: each turn adds the bit of the next value.
+use Rattle.std.proofs.Common.{rules, ◌≡◌}
+use Rattle.marked.specs.Maps.{map_bits}
 use Rattle.marking.proofs.Mapping.{mapping_none, mapping_with, mapping_without, mapping_all}
 use Rattle.marking.proofs.map_of.Goals as goal
-use Rattle.marking.proofs.map_of.Goals.{then-values-bit-gt0, else-values-bit-gt0}
+
+pub loop-bit-init : goal.loop-bit-init
+loop-bit-init c =
+    let first : c.into_iter-bit-iterator.result.count ≡ 0 = search rules in
+    let room : c.into_iter-bit-iterator.result.iter.n ≡ map_bits = search rules in
+    let all : c.into_iter-bit-iterator.result.iter.iter.rest.now ≡ c.args.values.now = search rules in
+    rw (first, room, all) (mapping_none _)
+
+pub loop-bit-preserved-then-value-gt0 : goal.loop-bit-preserved-then-value-gt0
+loop-bit-preserved-then-value-gt0 c =
+    let steps = c.in-Some.ensures.steps in
+    rw (steps.2, steps.1) (mapping_with _ (rw steps.0.0 at c.loop-bit.invariant) steps.0.1 c.if-value-gt0.true)
 
 pub loop-bit-preserved : goal.loop-bit-preserved
 loop-bit-preserved c =
-    let so_far = c.loop-bit.invariant in
-    let more = c.loop-bit-test.true in
-    let is = c.bits_for-last.ensures in
-    elim c.if-values-bit-gt0.branch [
-      | then-values-bit-gt0 w ↦ rw w.map-is (mapping_with _ is so_far more w.if-values-bit-gt0.true)
-      | else-values-bit-gt0 w ↦ rw w.map-is (mapping_without _ is so_far more w.if-values-bit-gt0.false)
-    ]
+    let steps = c.in-Some.ensures.steps in
+    rw steps.2 (mapping_without _ (rw steps.0.0 at c.loop-bit.invariant) steps.0.1 c.if-value-gt0.false)
 
 pub returns : goal.returns
-returns c = mapping_all _ c.bits_for-last.ensures c.loop-bit.invariant c.loop-bit-test.false
-
-pub loop-bit-init : goal.loop-bit-init
-loop-bit-init c = mapping_none _ c.bits_for-last.ensures
+returns c = mapping_all _ c.loop-bit.invariant (λ more. (c.in-None.ensures.steps.0 more).0)

@@ -1,28 +1,33 @@
--- `values_of` meets its contract. The invariant: the values of the bits passed are gathered. The rest of the map falls with each bit.
-use native.Mathlib.Omega.{arith}
-use borrow.Author.Rules.{rules}
-use Rattle.marked.proofs.Bits.{map_falls}
-use Rattle.marking.proofs.Gathering.{gathering_none, gathering_room, gathering_more, gathering_all}
+-- `values_of`: each turn puts the value of the next bit into the next entry.
+use Rattle.std.proofs.Common.{rules, inl, ◌≡◌, ◌≤◌, length, arith}
+use Rattle.marked.specs.Maps.{map_bits, bits_of}
+use Rattle.marking.specs.Marking.{value_in}
+use Rattle.marking.proofs.Gathering.{bits_within, gathering_none, gathering_room, gathering_more, gathering_all}
 use Rattle.marking.proofs.values_of.Goals as goal
 
-pub loop-rest-preserved : goal.loop-rest-preserved
-loop-rest-preserved c =
-    gathering_more _ _ (search rules) c.loop-rest.invariant c.loop-rest-test.true c.lowest_bit-bit.ensures c.value_in.ensures
+pub loop-done-init-derived : goal.loop-done-init-derived
+loop-done-init-derived c =
+    let few : length (bits_of c.into_iter-done-iterator.result.iter.0) ≤ map_bits = bits_within _ in
+    let first : c.into_iter-done-iterator.result.count ≡ 0 = search rules in
+    ((tt, tt, inl (omega arith)), tt)
 
-pub returns : goal.returns
-returns c = gathering_all _ _ (search rules) c.loop-rest.invariant (omega (arith, c.loop-rest-test.false))
-
-pub loop-rest-init : goal.loop-rest-init
-loop-rest-init c = gathering_none _ _ (search rules)
+pub loop-done-init : goal.loop-done-init
+loop-done-init c =
+    let first : c.into_iter-done-iterator.result.count ≡ 0 = search rules in
+    let all : c.into_iter-done-iterator.result.iter.0 ≡ c.args.map = search rules in
+    rw (first, all) (gathering_none _ _)
 
 pub offset_bounds-marked-done : goal.offset_bounds-marked-done
-offset_bounds-marked-done c = let below = (gathering_room _ _ (search rules) c.loop-rest.invariant c.loop-rest-test.true) in search rules
+offset_bounds-marked-done c = let room = gathering_room _ _ (rw c.in-Some.ensures.steps.0 at c.loop-done.invariant) in search rules
 
 pub bounds-marked-done : goal.bounds-marked-done
-bounds-marked-done c = (gathering_room _ _ (search rules) c.loop-rest.invariant c.loop-rest-test.true)
+bounds-marked-done c = let room = gathering_room _ _ (rw c.in-Some.ensures.steps.0 at c.loop-done.invariant) in search rules
 
-pub overflow_add-done : goal.overflow_add-done
-overflow_add-done c = let below = (gathering_room _ _ (search rules) c.loop-rest.invariant c.loop-rest-test.true) in search rules
+pub loop-done-preserved : goal.loop-done-preserved
+loop-done-preserved c =
+    let steps = c.in-Some.ensures.steps in
+    let value : c.unwrap_or.result ≡ value_in c.args.values.now c.in-Some.bit = search rules in
+    rw (steps.2, steps.1) (gathering_more _ _ (rw steps.0 at c.loop-done.invariant) value)
 
-pub loop-rest-smaller : goal.loop-rest-smaller
-loop-rest-smaller c = map_falls _ c.loop-rest-test.true
+pub returns : goal.returns
+returns c = gathering_all _ _ (rw c.in-None.ensures.steps.0.0 at c.loop-done.invariant)

@@ -4,4 +4,5 @@ use Rattle.placing.proofs.place.Goals as goal
 
 pub returns : goal.returns
 returns c =
-    whole_placed _ _ _ c.groups_in-all.ensures c.index_edges.ensures c.find_ready.ensures c.place_ready-placed.ensures
+    let noted = rw c.none-index.ensures at c.note_all.ensures in
+    whole_placed _ _ _ c.groups_in-all.ensures noted c.find_ready.ensures c.place_ready.ensures

@@ -1,32 +1,42 @@
--- `command_counts` meets its contract. The invariant: the rows passed are tallied.
-use Prim.Native.Nat.{◌≤◌}
-use native.Mathlib.Nat.{min-le_right}
-use native.Mathlib.Omega.{arith}
+-- `command_counts`: each turn counts the rank of the next row.
+use Rattle.std.proofs.Common.{rules, ◌≡◌, length, arith, ◌∙◌}
 use Rattle.model.specs.Limits.{max_items}
-use Rattle.rank_counts.proofs.Tallies.{tallying_none, tallying_few, tallying_counted, tallying_passed, tallying_all}
+use Rattle.rank_counts.proofs.Tallies.{tallying_none, tallying_few, tallying_counted, tallying_beyond, tallying_passed, tallying_all}
 use Rattle.rank_counts.proofs.command_counts.Goals as goal
-use Rattle.rank_counts.proofs.command_counts.Goals.{then-row-lt-RANKS, else-row-lt-RANKS}
 
-pub loop-item-preserved : goal.loop-item-preserved
-loop-item-preserved c =
-    let so_far = c.loop-item.invariant in
-    let more = c.loop-item-test.true in
-    elim c.if-row-lt-RANKS.branch [
-      | then-row-lt-RANKS w ↦ rw w.counts-is (tallying_counted _ _ so_far more _ c.row_of-row.ensures w.if-row-lt-RANKS.true)
-      | else-row-lt-RANKS w ↦ rw w.counts-is (tallying_passed _ _ so_far more _ c.row_of-row.ensures w.if-row-lt-RANKS.false)
-    ]
+pub loop-told-init : goal.loop-told-init
+loop-told-init c =
+    let long : length c.args.trail.now ≡ max_items = search rules in
+    let room : c.into_iter-told-iterator.result.n ≡ c.args.items = search rules in
+    let all : c.into_iter-told-iterator.result.iter.rest.now ≡ c.args.trail.now = search rules in
+    rw (room, all) (tallying_none _ _ long)
 
 pub overflow_add-counts : goal.overflow_add-counts
 overflow_add-counts c =
-    let small = tallying_few _ _ c.loop-item.invariant _ c.if-row-lt-RANKS.true in
-    let rows = (let fact : c.rows_told-last.result ≤ max_items = omega (arith, c.rows_told-last.ensures, min-le_right c.args.items max_items) in fact) in
-    omega (arith, small, rows, c.loop-item-test.true)
+    let long : length c.args.trail.now ≡ max_items = search rules in
+    let so_far = rw c.in-Some.ensures.steps.0 at c.loop-told.invariant in
+    let few = tallying_few _ _ long so_far _ c.if-row-lt-RANKS.true in
+    omega (arith, few)
+
+pub loop-told-preserved-then-row-lt-RANKS : goal.loop-told-preserved-then-row-lt-RANKS
+loop-told-preserved-then-row-lt-RANKS c =
+    let long : length c.args.trail.now ≡ max_items = search rules in
+    let steps = c.in-Some.ensures.steps in
+    tallying_counted _ _ long (rw steps.0 at c.loop-told.invariant) steps.1 c.in-Some-row_of.ensures c.if-row-lt-RANKS.true
+
+pub loop-told-preserved-else-row-lt-RANKS : goal.loop-told-preserved-else-row-lt-RANKS
+loop-told-preserved-else-row-lt-RANKS c =
+    let long : length c.args.trail.now ≡ max_items = search rules in
+    let steps = c.in-Some.ensures.steps in
+    tallying_beyond _ _ long (rw steps.0 at c.loop-told.invariant) steps.1 c.in-Some-row_of.ensures c.if-row-lt-RANKS.false
+
+pub loop-told-preserved : goal.loop-told-preserved
+loop-told-preserved c =
+    let long : length c.args.trail.now ≡ max_items = search rules in
+    let steps = c.in-Some.ensures.steps in
+    tallying_passed _ _ long (rw steps.0 at c.loop-told.invariant) steps.1 (λ row is. c.in_default.not-Some row (c.row_of.ensures ∙ is))
 
 pub returns : goal.returns
-returns c = tallying_all _ _ _ c.loop-item.invariant c.rows_told-last.ensures c.loop-item-test.false
-
-pub loop-item-init : goal.loop-item-init
-loop-item-init c = tallying_none _ _
-
-pub bounds-trail-item : goal.bounds-trail-item
-bounds-trail-item c = let rows = (let fact : c.rows_told-last.result ≤ max_items = omega (arith, c.rows_told-last.ensures, min-le_right c.args.items max_items) in fact) in omega (arith, rows, c.loop-item-test.true)
+returns c =
+    let long : length c.args.trail.now ≡ max_items = search rules in
+    tallying_all _ _ long c.loop-told.invariant (λ more. (c.in-None.ensures.steps more).0)

@@ -1,5 +1,4 @@
 -- `write_counts` meets its contract.
-use mathlib.Core.Path.{◌∙◌}
 use Rattle.slips.proofs.Putting.{slip_short, map_room, counts_room, slip_put}
 use Rattle.slips.proofs.write_counts.Goals as goal
 
@@ -12,20 +11,16 @@ write_map-requires c =
     let given = c.args in
     map_room given.ranks _ c.map_of-map.ensures c.slip_length-needed.ensures given.slip.now c.if-slip-needed.false
 
-pub slice_bounds-write_words-count : goal.slice_bounds-write_words-count
-slice_bounds-write_words-count c =
+pub slice_bounds-write-count : goal.slice_bounds-write-count
+slice_bounds-write-count c =
     counts_room _ _ c.map_of-map.ensures c.slip_length-needed.ensures _ c.if-slip-needed.false
     c.map_length-behind.ensures c.write_map.ensures
 
-pub slice_bounds-write_words-start : goal.slice_bounds-write_words-start
-slice_bounds-write_words-start c = slice_bounds-write_words-count c
-
-pub shape_of-slip : goal.shape_of-slip
-shape_of-slip c =
-    c.slip-2-1.given.1 ∙ c.slip-1.given
+pub slice_bounds-write-start : goal.slice_bounds-write-start
+slice_bounds-write-start c = slice_bounds-write-count c
 
 pub returns : goal.returns
 returns c =
     slip_put _ _ c.map_of-map.ensures c.slip_length-needed.ensures _ c.if-slip-needed.false
     c.map_length-behind.ensures c.write_map.ensures c.values_of-listed.ensures c.ones_in.ensures
-    c.write_words.ensures
+    c.write.ensures

@@ -2,10 +2,10 @@
 use Rattle.verdicts.proofs.Composed.{judged_order, judged_ring}
 use Rattle.verdicts.proofs.verdict.Goals as goal
 
-pub returns-then-placed_count-groups_in : goal.returns-then-placed_count-groups_in
-returns-then-placed_count-groups_in c =
-    judged_ring _ _ c.place-placed.ensures c.groups_in.ensures c.if-placed_count-groups_in.true c.ring-found.ensures
+pub returns-then-placed-groups_in : goal.returns-then-placed-groups_in
+returns-then-placed-groups_in c =
+    judged_ring _ _ c.place-placed.ensures c.groups_in.ensures c.if-placed-groups_in.true c.ring-found.ensures
 
-pub returns : goal.returns
-returns c =
-    judged_order _ _ c.place-placed.ensures c.groups_in.ensures c.if-placed_count-groups_in.false
+pub returns-else-placed-groups_in : goal.returns-else-placed-groups_in
+returns-else-placed-groups_in c =
+    judged_order _ _ c.place-placed.ensures c.groups_in.ensures c.if-placed-groups_in.false

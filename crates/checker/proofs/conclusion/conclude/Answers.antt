@@ -2,8 +2,8 @@
 use Rattle.checker.proofs.Accepting.{ends_refused, ends_accepted}
 use Rattle.checker.proofs.conclusion.conclude.Goals as goal
 
-pub returns-in-Refused : goal.returns-in-Refused
-returns-in-Refused c = search ends_refused
+pub returns-in-Err : goal.returns-in-Err
+returns-in-Err c = search ends_refused
 
-pub returns-in-Accepted : goal.returns-in-Accepted
-returns-in-Accepted c = search ends_accepted
+pub returns-in-Ok : goal.returns-in-Ok
+returns-in-Ok c = search ends_accepted

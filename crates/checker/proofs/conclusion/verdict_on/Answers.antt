@@ -6,4 +6,4 @@ use Rattle.checker.proofs.conclusion.verdict_on.Goals as goal
 pub returns : goal.returns
 returns c =
     let given = c.args in
-    concludes_verdict (verdict_told given.groups given.items given.trail.now) _ _ c.judge-judged.ensures c.answer_of.ensures
+    concludes_verdict (verdict_told given.groups given.items given.trail.now) _ _ c.judge-judged.ensures c.answer.ensures c.count.ensures

@@ -4,32 +4,6 @@ use Rattle.model.specs.Choice.{lookup}
 use borrow.Author.Tests.{ne_eqb}
 use Rattle.expressions.proofs.tokens.token_of.Goals as goal
 
-pub returns-in_default : goal.returns-in_default
-unfolding lookup tokens
-returns-in_default c = simp (
-  ne_eqb _ _ c.in_default.in_default-own.rest.0.0.0.0.0.0.0.0.1,
-  ne_eqb _ _ c.in_default.in_default-own.rest.0.0.0.0.0.0.0.1,
-  ne_eqb _ _ c.in_default.in_default-own.rest.0.0.0.0.0.0.1,
-  ne_eqb _ _ c.in_default.in_default-own.rest.0.0.0.0.0.1,
-  ne_eqb _ _ c.in_default.in_default-own.rest.0.0.0.0.1,
-  ne_eqb _ _ c.in_default.in_default-own.rest.0.0.0.1,
-  ne_eqb _ _ c.in_default.in_default-own.rest.0.0.1,
-  ne_eqb _ _ c.in_default.in_default-own.rest.0.1,
-  ne_eqb _ _ c.in_default.in_default-own.rest.1,
-)
-
-pub returns-in-0 : goal.returns-in-0
-unfolding lookup tokens
-returns-in-0 c = rw c.in-0.is
-
-pub returns-in-1 : goal.returns-in-1
-unfolding lookup tokens
-returns-in-1 c = rw c.in-1.is
-
-pub returns-in-2 : goal.returns-in-2
-unfolding lookup tokens
-returns-in-2 c = rw c.in-2.is
-
 pub returns-in-3 : goal.returns-in-3
 unfolding lookup tokens
 returns-in-3 c = rw c.in-3.is
@@ -53,3 +27,17 @@ returns-in-19 c = rw c.in-19.is
 pub returns-in-20 : goal.returns-in-20
 unfolding lookup tokens
 returns-in-20 c = rw c.in-20.is
+
+pub returns-in_default : goal.returns-in_default
+unfolding lookup tokens
+returns-in_default c = simp (
+  ne_eqb _ _ c.in_default.in_default-own.rest.0.0.0.0.0.0.0.0.1,
+  ne_eqb _ _ c.in_default.in_default-own.rest.0.0.0.0.0.0.0.1,
+  ne_eqb _ _ c.in_default.in_default-own.rest.0.0.0.0.0.0.1,
+  ne_eqb _ _ c.in_default.in_default-own.rest.0.0.0.0.0.1,
+  ne_eqb _ _ c.in_default.in_default-own.rest.0.0.0.0.1,
+  ne_eqb _ _ c.in_default.in_default-own.rest.0.0.0.1,
+  ne_eqb _ _ c.in_default.in_default-own.rest.0.0.1,
+  ne_eqb _ _ c.in_default.in_default-own.rest.0.1,
+  ne_eqb _ _ c.in_default.in_default-own.rest.1,
+)

@@ -1,5 +1,5 @@
 -- `draw_each`: the arrows from here on, added to those so far, are all of them added to those from before.
-use mathlib.Core.Path.{refl, sym, ◌∙◌}
+use mathlib.Core.Path.{sym, ◌∙◌}
 use native.Mathlib.Omega.{arith}
 use Rattle.chains.proofs.Chains.{older_lower}
 use Rattle.happens_before.proofs.Adding.{each_done, each_turn}
@@ -13,10 +13,8 @@ loop-member-smaller c =
 
 pub loop-member-preserved : goal.loop-member-preserved
 loop-member-preserved c =
-    c.loop-member.invariant ∙ each_turn _ _ _ _ c.loop-member-test.true _ c.older-member.ensures c.draw_from-drawn.ensures
+    let drawn = rw (c.group_at.ensures, c.from.ensures) at c.draw.ensures in
+    c.loop-member.invariant ∙ each_turn _ _ _ _ c.loop-member-test.true _ c.older-member.ensures drawn
 
 pub returns : goal.returns
 returns c = sym (c.loop-member.invariant ∙ each_done _ _ _ _ c.loop-member-test.false _)
-
-pub loop-member-init : goal.loop-member-init
-loop-member-init c = refl

@@ -1,15 +1,11 @@
 -- `length_of`: by the line's shape.
-use mathlib.Core.Path.{ap, ◌∙◌}
 use borrow.Author.Rules.{rules}
-use lib.ListN.{length}
-use Rattle.lines.specs.Lines.{answer_line}
 use Rattle.layout.proofs.Lengths.{verdict_measured, group_measured, cell_measured, none_measured}
 use Rattle.layout.proofs.line.length_of.Goals as goal
 
 pub returns-in-Verdict : goal.returns-in-Verdict
 returns-in-Verdict c =
-    verdict_measured c.in-Verdict.is (search rules)
-    (c.answer_length.ensures ∙ ap (λ a. length (answer_line a)) c.answer_of.ensures)
+    verdict_measured c.in-Verdict.is (search rules) c.answer_length.ensures
 
 pub returns-in-Group : goal.returns-in-Group
 returns-in-Group c =

@@ -6,18 +6,18 @@ use Rattle.model.proofs.Listings.{decimal_few}
 use Rattle.lines.proofs.Spaced.{counting_none, counting_more, counting_all}
 use Rattle.lines.proofs.numbered.line_length.Goals as goal
 
-pub loop-next-init : goal.loop-next-init
-loop-next-init c = counting_none _ _ (omega arith)
+pub loop-number-init : goal.loop-number-init
+loop-number-init c = counting_none _ _ (omega arith)
 
 -- The next number's digits are few.
 pub overflow_add-decimal_length : goal.overflow_add-decimal_length
 overflow_add-decimal_length c =
-    let number = get_or c.args.numbers.now c.loop-next.next 0 in
+    let number = get_or c.args.numbers.now c.loop-number.number-index 0 in
     omega (arith, c.decimal_length.ensures, decimal_few number (omega arith))
 
-pub loop-next-preserved : goal.loop-next-preserved
-loop-next-preserved c =
-    let number = get_or c.args.numbers.now c.loop-next.next 0 in
+pub loop-number-preserved : goal.loop-number-preserved
+loop-number-preserved c =
+    let number = get_or c.args.numbers.now c.loop-number.number-index 0 in
     let few : c.decimal_length.result ≤ 20 = omega (arith, c.decimal_length.ensures, decimal_few number (omega arith)) in
     search (counting_more, few)
 

@@ -1,32 +1,30 @@
--- `read_transitions`: the loop keeps `Passed`, and the transitions left fall with each turn. Assumes nothing.
-use native.Mathlib.Omega.{arith}
-use lib.ListN.{replicate}
-use Rattle.model.specs.Limits.{max_registers}
+-- `read_transitions`: the loop keeps `Passed`. Assumes nothing.
+use Rattle.std.proofs.Common.{rules, arith, ◌<◌}
+use Rattle.std.proofs.lemmas.List.{length-take-le}
+use Rattle.model.specs.Limits.{word_values}
+use Rattle.expressions.proofs.Values.{made_of, made_of_none}
 use Rattle.program.proofs.Loops.{fits, passed_none, passed_more, passed_refused, left_over, all_read}
 use Rattle.program.proofs.reader.read_transitions.Goals as goal
 
-pub returns-in-Refused : goal.returns-in-Refused
-returns-in-Refused c =
-    rw c.refused.ensures
-    (passed_refused c.loop-i.invariant c.loop-i-test.true 0 (replicate max_registers 0)
-    c.read_transition-read.ensures c.in-Refused.is)
+pub loop-start-init : goal.loop-start-init
+loop-start-init c = passed_none _ _ _ _ c.requires (length-take-le _ _ (omega (arith, c.requires.few)))
 
-pub overflow_cast-starts : goal.overflow_cast-starts
-overflow_cast-starts c =
-    omega (arith, fits c.loop-i.invariant c.loop-i-test.true)
+pub returns-in_err-transition : goal.returns-in_err-transition
+returns-in_err-transition c =
+    rw (passed_refused c.loop-start.invariant (omega arith) (made_of_none _ _ c.in_err-transition.ensures)) (search rules)
 
-pub loop-i-preserved : goal.loop-i-preserved
-loop-i-preserved c =
-    passed_more c.loop-i.invariant c.loop-i-test.true 0 (replicate max_registers 0)
-    c.read_transition-read.ensures c.in-Read.is
+pub overflow_cast-start : goal.overflow_cast-start
+overflow_cast-start c =
+    let fits : c.loop-start.place < word_values = fits c.loop-start.invariant (omega arith) in
+    omega arith
+
+pub loop-start-preserved : goal.loop-start-preserved
+loop-start-preserved c =
+    let (transition, read, value) = made_of _ _ c.in_ok-transition.ensures in
+    passed_more c.loop-start.invariant (omega arith) read
 
 pub returns-then-place-bytes : goal.returns-then-place-bytes
-returns-then-place-bytes c =
-    rw c.refused-then-place-bytes.ensures (left_over c.loop-i.invariant c.loop-i-test.false c.if-place-bytes.true)
+returns-then-place-bytes c = all_read c.loop-start.invariant (omega arith) c.if-place-bytes.true
 
-pub returns : goal.returns
-returns c =
-    all_read c.loop-i.invariant c.loop-i-test.false c.if-place-bytes.false
-
-pub loop-i-init : goal.loop-i-init
-loop-i-init c = passed_none _ _ _ c.requires
+pub returns-else-place-bytes : goal.returns-else-place-bytes
+returns-else-place-bytes c = rw (left_over c.loop-start.invariant (omega arith) c.if-place-bytes.false)

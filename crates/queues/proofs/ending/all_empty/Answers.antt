@@ -1,31 +1,13 @@
--- `queues::ending::all_empty` meets its contract. The invariant: the queues of the ranks so far are empty.
-use mathlib.Core.Path.{sym, ◌∙◌}
-use native.Mathlib.Omega.{arith}
-use Rattle.queues.proofs.Every.{passed_none, passed_more, passed_fails, passed_all}
+-- `queues::ending::all_empty` meets its contract: the ranks are tested in turn.
+use Rattle.std.proofs.Common.{◌+◌, refl, ◌∙◌, arith, rules}
+use Rattle.std.proofs.lemmas.Iterator.{YieldsList-from_range}
+use Rattle.std.proofs.lemmas.Iterator.Search.{all_from_yields_List}
+use Rattle.queues.specs.Endings.{rank_empty}
+use Rattle.queues.proofs.Every.{all_next}
 use Rattle.queues.proofs.ending.all_empty.Goals as goal
 
-pub loop-before-init : goal.loop-before-init
-loop-before-init c = passed_none _ _ _
-
-pub overflow_add-before : goal.overflow_add-before
-overflow_add-before c = record { fits = omega (arith, c.loop-before-test.true, c.ranges.ranks.fits) }
-
-pub returns-then-not-rank_empty : goal.returns-then-not-rank_empty
-returns-then-not-rank_empty c =
-    passed_fails _ _ _ c.loop-before.invariant _ c.loop-before-test.true (omega arith)
-    (sym c.rank_empty.ensures ∙ c.if-not-rank_empty.true)
-
-pub overflow_add-before-in-loop-before : goal.overflow_add-before-in-loop-before
-overflow_add-before-in-loop-before c =
-    record { fits = omega (arith, c.loop-before-test.true, c.ranges.ranks.fits) }
-
-pub loop-before-smaller : goal.loop-before-smaller
-loop-before-smaller c = omega (arith, c.loop-before-test.true)
-
-pub loop-before-preserved : goal.loop-before-preserved
-loop-before-preserved c =
-    passed_more _ _ _ c.loop-before.invariant _ c.loop-before-test.true (omega arith)
-    (sym c.rank_empty.ensures ∙ c.if-not-rank_empty.false)
-
 pub returns : goal.returns
-returns c = passed_all _ _ _ c.loop-before.invariant c.loop-before-test.false
+returns c =
+    all_from_yields_List (λ n. rank_empty c.args.ends.now c.args.queues (n + 1)) _ _ c.all.result c.all.ensures.ran
+    (YieldsList-from_range 0 c.args.ranks c.args.ranks refl (omega arith)) (λ x b q k. search rules)
+    ∙ all_next (rank_empty c.args.ends.now c.args.queues) 0 c.args.ranks

@@ -1,9 +1,8 @@
-use mathlib.Core.Path.{◌≡◌}
-use Rattle.record.specs.Places.{items_to_end, counted}
+-- What is left to read from here comes to the same place as the whole.
+use Rattle.std.proofs.Common.{◌≡◌, ◌-◌}
+use Rattle.record.specs.Places.{items_end}
 use Rattle.record.proofs.reader.read_items.Given as goal
 
-abbrev pub invariant-loop-left : goal.invariant-loop-left
-invariant-loop-left l = counted l.count (items_to_end l.header l.left l.bytes l.at) ≡ counted l.count (items_to_end l.header l.count l.bytes l.from)
-
-abbrev pub decreases-loop-left : goal.decreases-loop-left
-decreases-loop-left l = l.left
+abbrev pub invariant-loop : goal.invariant-loop
+invariant-loop l =
+    items_end l.header (l.count - l.counter) l.bytes l.at ≡ items_end l.header l.count l.bytes l.from

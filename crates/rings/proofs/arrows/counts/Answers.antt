@@ -2,15 +2,16 @@
 use borrow.Author.Tests.{lt-ltb, le-ltb}
 use Rattle.rings.specs.Found.{counts}
 use Rattle.rings.proofs.arrows.counts.Goals as goal
+use Rattle.rings.proofs.arrows.counts.Goals.{else-group-groups-via-then-group-groups+else-to-groups, else-group-groups-via-else-group-groups}
 
-pub returns-then-other-groups : goal.returns-then-other-groups
+pub returns-then-to-groups : goal.returns-then-to-groups
 unfolding counts
-returns-then-other-groups c = rw (lt-ltb _ _ c.if-group-groups.true, lt-ltb _ _ c.if-other-groups.true)
+returns-then-to-groups c = rw (lt-ltb _ _ c.if-group-groups.true, lt-ltb _ _ c.if-to-groups.true)
 
-pub returns-else-other-groups : goal.returns-else-other-groups
+pub returns : goal.returns
 unfolding counts
-returns-else-other-groups c = rw (lt-ltb _ _ c.if-group-groups.true, le-ltb _ _ c.if-other-groups.false)
-
-pub returns-else-group-groups : goal.returns-else-group-groups
-unfolding counts
-returns-else-group-groups c = rw (le-ltb _ _ c.if-group-groups.false)
+returns c =
+    elim c.else-group-groups.branch [
+      | else-group-groups-via-then-group-groups+else-to-groups w ↦ rw (lt-ltb _ _ w.if-group-groups.true, le-ltb _ _ w.if-to-groups.false)
+      | else-group-groups-via-else-group-groups w ↦ rw (le-ltb _ _ w.if-group-groups.false)
+    ]

@@ -3,8 +3,8 @@ use Rattle.model.specs.Limits.{max_items}
 use Rattle.rings.proofs.Looking.{Trying}
 use Rattle.rings.proofs.roots.closest.Given as goal
 
-abbrev pub invariant-loop-most : goal.invariant-loop-most
-invariant-loop-most l = Trying l.groups l.most l.edges l.heads l.links l.tails l.onward l.lows l.queue l.best
+abbrev pub invariant-loop-best : goal.invariant-loop-best
+invariant-loop-best l = Trying l.groups l.most l.arrows.tails l.search.lows l.search.queue.groups
 
-abbrev pub decreases-loop-most : goal.decreases-loop-most
-decreases-loop-most l = max_items - l.most
+abbrev pub decreases-loop-best : goal.decreases-loop-best
+decreases-loop-best l = max_items - l.most

@@ -7,10 +7,10 @@ pub returns : goal.returns
 returns c =
     rank_put _ c.map_of-map.ensures c.ones_in-count.ensures _ c.requires
     c.write_map.ensures
-    c.values_of-values.ensures c.write_words.ensures
+    c.values_of-values.ensures c.write.ensures
 
 pub overflow_mul-result : goal.overflow_mul-result
-overflow_mul-result c = let small = (count_few _ c.map_of-map.ensures c.ones_in-count.ensures) in omega (arith, small)
+overflow_mul-result c = let small = count_few _ c.map_of-map.ensures c.ones_in-count.ensures in omega (arith, small)
 
 pub overflow_add-result : goal.overflow_add-result
-overflow_add-result c = let small = (count_few _ c.map_of-map.ensures c.ones_in-count.ensures) in omega (arith, small)
+overflow_add-result c = let small = count_few _ c.map_of-map.ensures c.ones_in-count.ensures in omega (arith, small)

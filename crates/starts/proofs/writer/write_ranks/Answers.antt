@@ -28,13 +28,13 @@ pub loop-row-init : goal.loop-row-init
 loop-row-init c = putting_none _ _ _ _ c.requires.has c.requires.room
 
 pub overflow_mul-first : goal.overflow_mul-first
-overflow_mul-first c = let small = (row_small _ _ _ c.loop-row.invariant.counted c.loop-row-test.true) in omega (arith, small)
+overflow_mul-first c = let small = row_small _ _ _ c.loop-row.invariant.counted c.loop-row-test.true in omega (arith, small)
 
 pub overflow_add-end : goal.overflow_add-end
-overflow_add-end c = let small = (row_small _ _ _ c.loop-row.invariant.counted c.loop-row-test.true) in omega (arith, small, c.loop-row.invariant.counted.has.few_cells)
+overflow_add-end c = let small = row_small _ _ _ c.loop-row.invariant.counted c.loop-row-test.true in omega (arith, small, c.loop-row.invariant.counted.has.few_cells)
 
 pub offset_bounds-cells-first : goal.offset_bounds-cells-first
-offset_bounds-cells-first c = let small = (row_small _ _ _ c.loop-row.invariant.counted c.loop-row-test.true) in omega (arith, small)
+offset_bounds-cells-first c = let small = row_small _ _ _ c.loop-row.invariant.counted c.loop-row-test.true in omega (arith, small)
 
 pub shape_of-start : goal.shape_of-start
 shape_of-start c = c.loop-row.invariant.long

@@ -1,8 +1,8 @@
-use Rattle.texts.proofs.Digiting.{Digiting}
+use mathlib.Core.Path.{◌≡◌}
+use Rattle.model.specs.Checks.{fill}
+use Rattle.model.specs.Listings.{decimal}
+use Rattle.texts.proofs.Digiting.{last_digits}
 use Rattle.texts.proofs.decimals.write_decimal.Given as goal
 
-abbrev pub invariant-loop-left : goal.invariant-loop-left
-invariant-loop-left l = Digiting l.initial.text l.number l.text l.at l.left
-
-abbrev pub decreases-loop-left : goal.decreases-loop-left
-decreases-loop-left l = l.left
+abbrev pub invariant-loop-at : goal.invariant-loop-at
+invariant-loop-at l = fill (last_digits l.at l.left) l.text ≡ fill (decimal l.number) l.initial.text

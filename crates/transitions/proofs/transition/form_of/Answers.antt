@@ -4,30 +4,6 @@ use Rattle.model.specs.Choice.{lookup}
 use Rattle.model.specs.Programs.{forms}
 use Rattle.transitions.proofs.transition.form_of.Goals as goal
 
-pub returns-in_default : goal.returns-in_default
-unfolding lookup forms
-returns-in_default c = simp (
-  ne_eqb _ _ c.in_default.in_default-own.rest.0.0.0.0.0.0.1,
-  ne_eqb _ _ c.in_default.in_default-own.rest.0.0.0.0.0.1,
-  ne_eqb _ _ c.in_default.in_default-own.rest.0.0.0.0.1,
-  ne_eqb _ _ c.in_default.in_default-own.rest.0.0.0.1,
-  ne_eqb _ _ c.in_default.in_default-own.rest.0.0.1,
-  ne_eqb _ _ c.in_default.in_default-own.rest.0.1,
-  ne_eqb _ _ c.in_default.in_default-own.rest.1,
-)
-
-pub returns-in-1 : goal.returns-in-1
-unfolding lookup forms
-returns-in-1 c = rw c.in-1.is
-
-pub returns-in-2 : goal.returns-in-2
-unfolding lookup forms
-returns-in-2 c = rw c.in-2.is
-
-pub returns-in-3 : goal.returns-in-3
-unfolding lookup forms
-returns-in-3 c = rw c.in-3.is
-
 pub returns-in-4 : goal.returns-in-4
 unfolding lookup forms
 returns-in-4 c = rw c.in-4.is
@@ -43,3 +19,15 @@ returns-in-6 c = rw c.in-6.is
 pub returns-in-9 : goal.returns-in-9
 unfolding lookup forms
 returns-in-9 c = rw c.in-9.is
+
+pub returns-in_default : goal.returns-in_default
+unfolding lookup forms
+returns-in_default c = simp (
+  ne_eqb _ _ c.in_default.in_default-own.rest.0.0.0.0.0.0.1,
+  ne_eqb _ _ c.in_default.in_default-own.rest.0.0.0.0.0.1,
+  ne_eqb _ _ c.in_default.in_default-own.rest.0.0.0.0.1,
+  ne_eqb _ _ c.in_default.in_default-own.rest.0.0.0.1,
+  ne_eqb _ _ c.in_default.in_default-own.rest.0.0.1,
+  ne_eqb _ _ c.in_default.in_default-own.rest.0.1,
+  ne_eqb _ _ c.in_default.in_default-own.rest.1,
+)

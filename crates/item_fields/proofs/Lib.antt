@@ -1,2 +1,0 @@
--- A transition's number in one byte or two.
-pub mod TransitionBytes

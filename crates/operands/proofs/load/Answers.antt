@@ -1,8 +1,0 @@
--- `load`: the cell is missing, or is judged by its range.
-use Rattle.operands.proofs.load.Goals as goal
-
-pub returns-in_default : goal.returns-in_default
-returns-in_default c = rw (c.in_default.is, c.no_value.ensures)
-
-pub returns : goal.returns
-returns c = rw c.in-Number.is c.on_cell.ensures
