@@ -5,8 +5,9 @@ use mathlib.Core.List.{List, [], ◌∷◌, ◌++◌, append_assoc, append-nil}
 use native.Mathlib.Numerals.{add-one}
 use native.Mathlib.Omega.{arith}
 use lib.Dec.{leb}
-use lib.ListN.{length, take, drop, set, length-append, length-drop, length-set, drop_of_length-le}
-use lib.Seq.{drop-cons, get_or-set_same, drop-set-lt, drop-drop, take_all, take-append_seam, drop-append_seam, drop-append-add}
+use lib.ListN.{length, take, drop, set, get_or, length-append, length-drop, length-set, drop_of_length-le}
+use lib.Seq.{drop-cons, get_or-set_same, drop-set-lt, drop-drop, take_all, take-length, take-append_seam, drop-append_seam, drop-append-add, set-append_seam, length-take-le}
+use Rattle.std.proofs.lemmas.List.{take_more}
 use borrow.Author.Tests.{le-leb, lt-leb, leb-true}
 use Rattle.model.specs.Checks.{fill}
 use Rattle.model.proofs.Laws.{when_true, when_false, decided}
@@ -75,6 +76,30 @@ fill_last new x text h =
 pub fill_none : (text : List ℕ) → fill [] text ≡ text
 unfolding fill
 fill_none text = refl
+
+-- The first byte first: what is written gets one byte more.
+pub fill_more : (new : List ℕ) (x : ℕ) (text : List ℕ) → length new < length text → set (fill new text) (length new) x ≡ fill (new ++ x ∷ []) text
+unfolding fill
+fill_more new x text h = rw (drop-cons text (length new) 0 h, set-append_seam, length-append new (x ∷ []), add-one, append_assoc)
+
+module _ (word text : List ℕ) where
+  -- So many bytes of a word are the front of the text.
+  abbrev pub Fronted : (at : ℕ) → List ℕ → Type 0
+  Fronted at now = now ≡ fill (take at word) text
+
+  pub fronted_more : {at : ℕ} {now : List ℕ} → Fronted at now → at < length word → length word ≤ length text → Fronted (at + 1) (set now at (get_or word at 0))
+  fronted_more {at} so_far more fits =
+      let x = get_or word at 0 in
+      let long = length-take-le at word (omega arith) in
+      ap (λ t. set t at x) so_far
+      ∙ ap (λ n. set (fill (take at word) text) n x) (sym long)
+      ∙ fill_more (take at word) x text (omega (arith, long))
+      ∙ ap (λ l. fill l text) (sym (take_more word at 0 more))
+
+  pub fronted_all : {at : ℕ} {now : List ℕ} → Fronted at now → at ≤ length word → length word ≤ at → now ≡ fill word text
+  fronted_all {at} so_far within all =
+      let e : at ≡ length word = omega arith in
+      so_far ∙ ap (λ n. fill (take n word) text) e ∙ ap (λ l. fill l text) (take-length word)
 
 -- A text whose front is written, up to a place.
 pub record Grown (found done text : List ℕ) (at : ℕ) : Type 0 where

@@ -28,9 +28,10 @@ pub fn write_decimal(text: &mut [u8], number: usize) -> usize
         return 0;
     }
     let mut left = number;
-    for at in (0..count).rev() {
+    for at in (1..count).rev() {
         text[at] = ZERO + (left % 10) as u8;
         left /= 10;
     }
+    text[0] = ZERO + left as u8;
     count
 }

@@ -8,6 +8,8 @@ pub fn write_word(text: &mut [u8], word: &[u8]) -> usize
     if text.len() < word.len() {
         return 0;
     }
-    text[..word.len()].copy_from_slice(word);
+    for (at, &byte) in word.iter().enumerate() {
+        text[at] = byte;
+    }
     word.len()
 }
