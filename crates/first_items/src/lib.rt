@@ -52,22 +52,22 @@ fn note(trail: &Trail, number: usize, place: usize, firsts: &mut Firsts)
     }
 }
 
-// The first items of all groups, for a record of so many items with this trail.
-pub fn first_items(recorded: &[u8], header: Header, trail: &Trail, items: usize) -> Firsts
-    ensures { result ≡ first_items header recorded.now trail.now items }
+// The first items of all groups, for a record of so many items with this trail. They are put into a lent table, since one that is handed back would be
+// copied.
+pub fn first_items(recorded: &[u8], header: Header, trail: &Trail, items: usize, firsts: &mut Firsts)
+    ensures { firsts.new ≡ first_items header recorded.now trail.now items }
 {
-    let mut firsts = [None; ITEMS];
+    *firsts = [None; ITEMS];
     let mut place = FIRST_ITEM;
     for number in 0..items {
         match read_item(recorded, place, header) {
             Ok(read) => {
-                note(trail, number, place, &mut firsts);
+                note(trail, number, place, firsts);
                 place = read.next;
             }
-            Err(_) => return firsts,
+            Err(_) => return,
         }
     }
-    firsts
 }
 
 // A group's first item, read again.

@@ -9,7 +9,7 @@ use judging::judge;
 use layout::Contents;
 use lines::{answer_length, write_answer};
 use model::refusals::MEMORY_TOO_SHORT;
-use model::{Cells, Listed, Refusal, Trail};
+use model::{Cells, ITEMS, Listed, Refusal, Trail};
 use replay::Accepted;
 
 // Where the lent bytes have no room for a text of this length: "15 with the bytes needed", and nothing is written.
@@ -60,7 +60,8 @@ impl AcceptedRun<'_> {
             groups,
         } = self.accepted;
         let judged = judge(self.trail, items, groups);
-        let firsts = first_items(self.recorded, header, self.trail, items);
+        let mut firsts = [None; ITEMS];
+        first_items(self.recorded, header, self.trail, items, &mut firsts);
         let contents = Contents {
             verdict: judged.verdict,
             groups: &judged.groups,
