@@ -51,7 +51,7 @@ impl Element for u16 {
     ghost wide = { λ number. refl };
 
     fn put(entry: &mut [u16], number: u16) {
-        entry.copy_from_slice(&[number]);
+        entry[0] = number;
     }
 }
 
@@ -68,7 +68,9 @@ impl Element for u8 {
     ghost wide = { λ number. refl };
 
     fn put(entry: &mut [u8], number: u16) {
-        entry.copy_from_slice(&number.to_be_bytes());
+        let [high, low] = number.to_be_bytes();
+        entry[0] = high;
+        entry[1] = low;
     }
 }
 
