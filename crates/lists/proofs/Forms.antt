@@ -1,7 +1,7 @@
 -- What is written behind what is filled is filled too. From this alone follow a whole list at the front, and cells rank after rank. The forms of a lent
 -- list are numbers and bytes.
 use Rattle.std.specs.Prelude.{flat_map, true, false}
-use Prim.Native.Nat.{ℕ, ◌+◌, ◌*◌, ◌/◌, ◌≤◌, ◌<◌}
+use Prim.Native.Nat.{ℕ, zero, suc, ◌+◌, ◌*◌, ◌/◌, ◌%◌, ◌≤◌, ◌<◌}
 use mathlib.Core.Path.{◌≡◌, refl, sym, ap, ◌∙◌}
 use mathlib.Core.List.{List, [], ◌∷◌, ◌++◌, map}
 use native.Mathlib.Nat.{mul-add, mul-div-le, mul-le-mul_left, mul-le-mul_right, suc-mul, min-le_left}
@@ -11,7 +11,7 @@ use lib.ListN.{length, take, drop, get_or, length-append, length-drop, length-ta
 use lib.Seq.{paste, length-take-le, get_or-take, take-append_seam, take_all, drop-append-add, drop-drop}
 use Rattle.std.proofs.lemmas.List.Concat.{flat_map-append}
 use Rattle.model.specs.Bytes.{word_bytes}
-use Rattle.model.specs.Limits.{max_ranks, max_cells}
+use Rattle.model.specs.Limits.{max_ranks, max_cells, byte_values}
 use Rattle.model.specs.Choice.{numbers_from}
 use Rattle.model.specs.Checks.{fill, entry_bytes}
 use Rattle.memory.specs.Tables.{Table, cells_size, number_at}
@@ -145,6 +145,30 @@ pub entry_length : (numbers : List ℕ) → length (entry_bytes numbers) ≡ 2 *
 unfolding entry_bytes
 entry_length [] = refl
 entry_length (n ∷ numbers) = omega (arith, entry_length numbers)
+
+twice_more : (i : ℕ) → 2 * suc i ≡ suc (suc (2 * i))
+twice_more i = omega arith
+
+pub entry_take : (count : ℕ) (numbers : List ℕ) → take (2 * count) (entry_bytes numbers) ≡ entry_bytes (take count numbers)
+unfolding entry_bytes
+entry_take zero numbers = refl
+entry_take (suc count) [] = rw (twice_more count)
+entry_take (suc count) (n ∷ numbers) = rw (twice_more count) (ap (λ l. n / byte_values ∷ n % byte_values ∷ l) (entry_take count numbers))
+
+-- The high byte stands before the low one.
+pub entry_high : (numbers : List ℕ) (i : ℕ) → get_or (entry_bytes numbers) (2 * i) 0 ≡ get_or numbers i 0 / byte_values
+unfolding entry_bytes
+entry_high [] i = refl
+entry_high (n ∷ numbers) zero = refl
+entry_high (n ∷ numbers) (suc i) = rw (twice_more i) (entry_high numbers i)
+
+pub entry_low : (numbers : List ℕ) (i : ℕ) → get_or (entry_bytes numbers) (2 * i + 1) 0 ≡ get_or numbers i 0 % byte_values
+unfolding entry_bytes
+entry_low [] i = refl
+entry_low (n ∷ numbers) zero = refl
+entry_low (n ∷ numbers) (suc i) =
+    let e : 2 * suc i + 1 ≡ suc (suc (2 * i + 1)) = omega arith in
+    rw e (entry_low numbers i)
 
 -- A form: how entries stand in a list, and for how many a list has room.
 pub record Form : Type 0 where
