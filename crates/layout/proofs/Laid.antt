@@ -5,11 +5,14 @@ use mathlib.Core.List.{List, [], ◌∷◌, ◌++◌, map, append-nil}
 use native.Mathlib.Nat.{mul-suc}
 use native.Mathlib.Numerals.{add-one}
 use native.Mathlib.Omega.{arith}
-use lib.ListN.{length, take, drop, length-drop, drop_of_length-le}
-use lib.Seq.{take_all}
-use borrow.Author.Tests.{le-leb, lt-leb}
+use lib.Dec.{leb}
+use lib.ListN.{length, take, drop, length-append, length-drop, drop_of_length-le}
+use lib.Seq.{length-take-le, take_all}
+use borrow.Author.Tests.{le-leb, lt-leb, leb-true}
 use Rattle.model.specs.Choice.{numbers_from}
 use Rattle.model.specs.Checks.{for_each_rank, rank_by_rank}
+use Rattle.model.proofs.Laws.{decided}
+use Rattle.lists.proofs.Forms.{fill_length}
 use Rattle.texts.specs.Texts.{written, Wrote}
 use Rattle.layout.specs.Laid.{Laid, laid, placed, put, lay_out, Laying, LaysOut}
 
@@ -17,6 +20,25 @@ lay_out_append : (a b : List (List ℕ)) (s : Laid) → lay_out (a ++ b) s ≡ l
 unfolding lay_out
 lay_out_append [] b s = refl
 lay_out_append (new ∷ a) b s = lay_out_append a b (put new s)
+
+-- A text keeps its length.
+pub written_length_lem : (new text : List ℕ) → length (written new text) ≡ length text
+unfolding written
+written_length_lem new text =
+    decided (leb (length new) (length text))
+    (λ t. rw t (fill_length new text (leb-true (length new) (length text) t)))
+    (λ t. rw t)
+
+placed_length : (new : List ℕ) (at : ℕ) (text : List ℕ) → length (placed new at text) ≡ length text
+unfolding placed
+placed_length new at text =
+    decided (leb at (length text))
+    (λ t.
+    let inside = leb-true at (length text) t in
+    let rest = drop at text in
+    rw (t, length-append (take at text) (written new rest), written_length_lem new rest, length-take-le at text inside, length-drop at text)
+    (omega arith))
+    (λ t. rw t)
 
 -- One line: in the rest of the text, which is lent for that and put back; or behind the text's end.
 module _ (new text : List ℕ) (at : ℕ) {most r : ℕ} (is : r ≡ length new) (few : r ≤ most) where
@@ -37,6 +59,11 @@ module _ (new text : List ℕ) (at : ℕ) {most r : ℕ} (is : r ≡ length new)
   pub put_outside : length text < at → LaysOut (new ∷ []) most (laid text at) (laid text (at + r))
   unfolding placed
   put_outside outside = put_laid (rw (lt-leb at (length text) outside))
+
+lay_out_length : (lines : List (List ℕ)) (s : Laid) → length (lay_out lines s).text ≡ length s.text
+unfolding lay_out
+lay_out_length [] s = refl
+lay_out_length (new ∷ lines) s = lay_out_length lines (put new s) ∙ placed_length new s.at s.text
 
 -- Some lines more.
 laying_more : (all : List (List ℕ)) {left : List (List ℕ)} (new rest : List (List ℕ)) {most : ℕ} {start s s' : Laid} {more : ℕ} (sum : ℕ) →
@@ -91,6 +118,10 @@ module _ {left : ℕ → List (List ℕ)} {last step : ℕ} {all : List (List �
         same = so_far.laying.same ∙ ap (λ l. lay_out l s) e;
         near = omega (arith, so_far.laying.near, ap (λ n. step * n) last_is);
       }
+
+  pub going_length : {i : ℕ} {start s : Laid} → Going left last step all i start s → length s.text ≡ length start.text
+  going_length {i} {start} {s} so_far =
+      sym (lay_out_length (left i) s) ∙ ap (λ (l : Laid). length l.text) (sym so_far.laying.same) ∙ lay_out_length all start
 
 -- Lines by numbers, from one number to the last.
 unfoldable pub lines_left : (f : ℕ → List ℕ) → (last i : ℕ) → List (List ℕ)

@@ -1,10 +1,11 @@
 -- The bits of a map: the lowest one and then those of the map without it, and as many as the map has ones.
-use Prim.Native.Nat.{ℕ, ◌+◌, ◌^◌, ◌≤◌, ◌<◌, zero-le}
+use Prim.Native.Nat.{ℕ, ◌+◌, ◌-◌, ◌^◌, ◌≤◌, ◌<◌, zero-le}
 use mathlib.Core.Path.{◌≡◌, refl, sym, ap, ◌∙◌}
 use mathlib.Core.Bool.{Bool, true, false}
 use mathlib.Core.List.{List, [], ◌∷◌}
 use native.Mathlib.Nat.{zero-add}
 use native.Mathlib.Omega.{arith}
+use lib.Bits.{and_le_r}
 use lib.Count.{ones}
 use lib.Dec.{ltb}
 use lib.ListN.{length}
@@ -30,6 +31,10 @@ module _ (map : ℕ) (some : Nonzero map_bits map) where
       numbers_lowest (λ i. bit i map) (λ i. bit i (without_lowest map)) (lowest_bit map) (bit_lowest map_bits map some)
       (λ i below. bit_below_lowest map_bits map i below) (λ i. bit_without map_bits map i some) 0 map_bits zero-le
       (omega (arith, bit_fits))
+
+-- The map falls with each bit that is taken.
+pub map_falls : (map : ℕ) → ¬ (map ≡ 0) → without_lowest map < map
+map_falls map some = omega (arith, some, and_le_r map (map - 1))
 
 -- A bit that comes first has an entry.
 pub bit_inside : (map : ℕ) {i : ℕ} {rest : List ℕ} → bits_of map ≡ i ∷ rest → i < map_bits

@@ -69,6 +69,9 @@ slip_accepted program start recorded a accepted =
     (commands_none program start recorded a accepted)
 
 -- One byte or two.
+pub map_length_some : (ranks : ℕ) → 1 ≤ map_length ranks
+map_length_some ranks = decided (ltb byte_ranks ranks) (λ t. rw t (omega arith)) (λ t. rw t (omega arith))
+
 pub map_length_few : (ranks : ℕ) → map_length ranks ≤ 2
 map_length_few ranks = decided (ltb byte_ranks ranks) (λ t. rw t (omega arith)) (λ t. rw t (omega arith))
 

@@ -2,7 +2,8 @@
 use Rattle.std.specs.Prelude.{ℕ, ◌≡◌, List, Option, Some, None, eqb}
 use Rattle.model.specs.declared.Found.{Found}
 use Rattle.model.specs.declared.Header.{Header}
-use mathlib.Core.Path.{refl}
+use Rattle.model.specs.declared.Refusal.{Refusal}
+use mathlib.Core.Path.{refl, ap}
 use borrow.Author.Tests.{eqb-true}
 use Rattle.model.specs.Refusals as Refusals
 use Rattle.model.specs.Refusals.{Result, Ok, Err, program_length}
@@ -12,6 +13,12 @@ use Rattle.model.specs.Programs.{CommandForm, Transition, forms, judged_form, re
 use Rattle.model.proofs.Laws.{decided}
 use Rattle.expressions.specs.Values.{number_below}
 use Rattle.transitions.specs.Transitions.{first_bytes}
+
+-- A bind that is refused was refused by the first or by what follows it.
+pub bind_refused : {A B P : Type 0} (m : Result A) (rest : A → Result B) {r : Refusal} → Refusals.◌>>=◌ m rest ≡ Err r →
+    (m ≡ Err r → P) → ((a : A) → m ≡ Ok a → rest a ≡ Err r → P) → P
+bind_refused (Ok a) rest h one other = other a refl h
+bind_refused (Err s) rest {r} h one other = let e : s ≡ r = cc in one (ap Err e)
 
 module _ (header : Header) where
   -- What follows map and kind.
