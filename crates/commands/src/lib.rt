@@ -89,7 +89,7 @@ pub fn take_command(
         rank: turn.item.rank,
         registers: registers_of(&machine.registers, turn.item.rank),
     };
-    match read_transition(&environment, program, start) {
+    match read_transition(environment, program, start) {
         Ok(read) => take_transition(read.value, turn, machine, cells),
         Err(_) => Err(Refusal {
             number: WRONG_TRANSITION,

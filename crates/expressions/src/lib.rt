@@ -132,8 +132,8 @@ impl Environment {
 
     // The expression at a place, with fifteen tokens of its own: its value, if it has one, and the place after it.
     #[tactic(auto, unfolding(model::specs::Expressions::expression))]
-    pub fn evaluate(&self, bytes: &[u8], at: usize) -> Read<Option<u16>>
-        ensures { result ≡ map_found (value_of self.now) (expression self.now.header.registers bytes.now at) }
+    pub fn evaluate(self, bytes: &[u8], at: usize) -> Read<Option<u16>>
+        ensures { result ≡ map_found (value_of self) (expression self.header.registers bytes.now at) }
     {
         let read = self.evaluate_tokens(bytes, at, TOKENS as u16)?;
         Ok(Found {

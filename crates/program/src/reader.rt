@@ -29,7 +29,7 @@ fn read_transitions(bytes: &[u8], at: usize, header: Header) -> Result<Program, 
     let mut place = at;
     let entries = &mut starts[..header.transitions as usize];
     for start in entries.iter_mut() {
-        let transition = read_transition(&environment, bytes, place)?;
+        let transition = read_transition(environment, bytes, place)?;
         *start = place as u16;
         place = transition.next;
     }

@@ -167,8 +167,8 @@ fn read_form(bytes: &[u8], at: usize) -> Read<Form>
 
 // The transition at a place, with the values of its expressions in an environment.
 #[tactic(auto, using(crate::proofs::Transitions::by_form))]
-pub fn read_transition(environment: &Environment, bytes: &[u8], at: usize) -> Read<Transition>
-    ensures { result ≡ map_found (transition_of environment.now) (read_transition environment.now.header bytes.now at) }
+pub fn read_transition(environment: Environment, bytes: &[u8], at: usize) -> Read<Transition>
+    ensures { result ≡ map_found (transition_of environment) (read_transition environment.header bytes.now at) }
 {
     let states = environment.header.states;
     let form = read_form(bytes, at)?;

@@ -33,8 +33,8 @@ fn read_register(bytes: &[u8], at: usize, stands: bool, limit: u16) -> Read<u16>
 
 // The value of an expression, if its map bit stands.
 #[tactic(auto, unfolding(crate::specs::Transitions::expression_field, model::specs::Expressions::evaluate))]
-fn read_value(environment: &Environment, bytes: &[u8], at: usize, stands: bool) -> Read<Option<u16>>
-    ensures { result ≡ map_found (value_of environment.now) (expression_field environment.now.header.registers stands bytes.now at) }
+fn read_value(environment: Environment, bytes: &[u8], at: usize, stands: bool) -> Read<Option<u16>>
+    ensures { result ≡ map_found (value_of environment) (expression_field environment.header.registers stands bytes.now at) }
 {
     if stands {
         environment.evaluate(bytes, at)
@@ -48,8 +48,8 @@ fn read_value(environment: &Environment, bytes: &[u8], at: usize, stands: bool) 
 
 // The fields that a map has.
 #[tactic(auto, using(crate::proofs::Fields::by_values))]
-pub fn read_fields(environment: &Environment, bytes: &[u8], at: usize, map: u16) -> Read<Values>
-    ensures { result ≡ map_found (values_of environment.now) (read_fields environment.now.header.registers map bytes.now at) }
+pub fn read_fields(environment: Environment, bytes: &[u8], at: usize, map: u16) -> Read<Values>
+    ensures { result ≡ map_found (values_of environment) (read_fields environment.header.registers map bytes.now at) }
 {
     let register = read_register(bytes, at, bit(map, 0), environment.header.registers)?;
     let e1 = read_value(environment, bytes, register.next, bit(map, 1))?;

@@ -7,12 +7,12 @@ use Rattle.transitions.proofs.transition.read_transition.Goals as goal
 
 pub returns-in_err-fields : goal.returns-in_err-fields
 returns-in_err-fields c =
-    let refused = made_of_none (values_of c.args.environment.now) _ c.in_err-fields.ensures in
+    let refused = made_of_none (values_of c.args.environment) _ c.in_err-fields.ensures in
     rw (by_form, ← c.in_ok-form.ensures, ← c.in_ok-source.ensures, ← c.in_ok-target.ensures, ← c.map.ensures, refused) (search rules)
 
 pub returns : goal.returns
 returns c =
-    let (fields, read, values) = made_of (values_of c.args.environment.now) _ c.in_ok-fields.ensures in
+    let (fields, read, values) = made_of (values_of c.args.environment) _ c.in_ok-fields.ensures in
     rw (
       by_form,
       ← c.in_ok-form.ensures,
@@ -20,5 +20,5 @@ returns c =
       ← c.in_ok-target.ensures,
       ← c.map.ensures,
       read,
-      c.command.ensures c.args.environment.now fields values,
+      c.command.ensures c.args.environment fields values,
     )
