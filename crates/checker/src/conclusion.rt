@@ -41,6 +41,7 @@ fn refused(refusal: Refusal) -> Concluded
 }
 
 // What the arrows of an accepted record come to.
+#[tactic(auto, using(crate::proofs::Concluding::concludes_verdict))]
 fn verdict_on(trail: &Trail, items: usize, groups: u16, header: Header) -> Concluded
     ensures { result ≡ judged_as (verdict_told groups items trail.now) header.ranks header.cells }
 {
