@@ -14,8 +14,8 @@ returns-in-Popb c = search (item_delivered, c.take_delivery.ensures)
 
 pub returns-in-Some : goal.returns-in-Some
 returns-in-Some c =
-    item_command _ _ _ _ _ _ c.row_allows.ensures c.if-not-row_allows.false (commands_part c.in-Load.is) (omega (arith, c.in-Some.ensures.lookup.3.0)) (cc (c.in-Some.ensures.lookup.3.1 0, c.in-Some.start-is, c.from.ensures, c.from-in-Some.ensures)) c.take_command.ensures
+    item_command _ _ _ _ _ _ c.row_allows.ensures c.if-not-row_allows.false (grind (arith, commands_part)) (omega (arith, c.in-Some.ensures.lookup.3.0)) (cc (c.in-Some.ensures.lookup.3.1 0, c.in-Some.start-is, c.from.ensures, c.from-in-Some.ensures)) c.take_command.ensures
 
 pub returns-in-None : goal.returns-in-None
 returns-in-None c =
-    number_refused _ _ _ _ _ _ c.row_allows.ensures c.if-not-row_allows.false (commands_part c.in-Load.is) (omega (arith, c.in-None.ensures.lookup.3))
+    number_refused _ _ _ _ _ _ c.row_allows.ensures c.if-not-row_allows.false (grind (arith, commands_part)) (omega (arith, c.in-None.ensures.lookup.3))
