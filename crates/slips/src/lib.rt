@@ -63,6 +63,7 @@ pub fn write_slip(program: &[u8], start: &[u8], recorded: &[u8], slip: &mut [u8]
 
 // Reads a slip for N ranks: each rank's count fills its entry, 0 for a rank without a bit. "N outside 1..8 .. is 16 at byte 0"; document 02, #105:
 // "The reader takes N 1..16." A slip that is not right is refused before a list that is too short, and nothing is written then.
+#[tactic(auto, using(crate::proofs::Reading::ranks_refused, crate::proofs::Reading::read_refused, crate::proofs::Reading::read_left, crate::proofs::Reading::read_filled))]
 pub fn read_slip(ranks: u16, slip: &[u8], counts: &mut [u16]) -> Filled
     ensures { answering result counts.new ≡ read_slip ranks slip.now counts.old }
 {
