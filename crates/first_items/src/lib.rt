@@ -54,7 +54,13 @@ fn note(trail: &Trail, number: usize, place: usize, firsts: &mut Firsts)
 
 // The first items of all groups, for a record of so many items with this trail. They are put into a lent table, since one that is handed back would be
 // copied.
-pub fn first_items(recorded: &[u8], header: Header, trail: &Trail, items: usize, firsts: &mut Firsts)
+pub fn first_items(
+    recorded: &[u8],
+    header: Header,
+    trail: &Trail,
+    items: usize,
+    firsts: &mut Firsts,
+)
     ensures { firsts.new ≡ first_items header recorded.now trail.now items }
 {
     *firsts = [None; ITEMS];
