@@ -12,7 +12,8 @@ use model::refusals::START_FORM;
 use model::{CELLS, Cells, Header, RANKS, Refusal};
 
 // Reads a start into the cells: each rank's readings in its row, and 0 in every other cell. "No bytes at all .. mean that all is 0". On a refusal the
-// cells stay as they were.
+// cells stay as they were. Put into a caller, its table would take stack in all that the caller does.
+#[inline(never)]
 #[tactic(auto, unfolding(crate::specs::Reading::cells_read, model::specs::Bytes::whole))]
 pub fn start_cells(start: &[u8], header: Header, cells: &mut Cells) -> Result<(), Refusal>
     ensures { ReadsInto (cells_read header start.now) cells.old cells.new result }
